@@ -1,0 +1,5 @@
+pub mod Own
+pub mod Zeros
+pub mod Sums
+pub mod Loops
+pub mod Casts

@@ -1,0 +1,3 @@
+pub mod Binary32
+pub mod Sums
+pub mod Zeros

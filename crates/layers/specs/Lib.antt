@@ -1,0 +1,3 @@
+pub mod Basis
+pub mod Layer
+pub mod Inputs

@@ -1,0 +1,62 @@
+#!/usr/bin/env bash
+# Builds the oracle and runs one of its programs:
+#   oracle/run.sh self-test | lists | leaves [--every N] [--offset M] [--basis N]
+# KAN_RUST: folder of the ported Rust; ESTIMATOR_LIB: folder of the proved code's archives.
+# Status 3: something that is needed is not here and can't be installed.
+set -euo pipefail
+cd "$(dirname "$0")/.."
+
+stop() {
+    echo "oracle: $1" >&2
+    exit "${2:-3}"
+}
+
+install() {
+    command -v apt-get >/dev/null || stop "needs the Debian packages $*, and there is no apt-get"
+    local get=(env DEBIAN_FRONTEND=noninteractive apt-get)
+    "${get[@]}" install -y --no-install-recommends "$@" >&2 && return
+    "${get[@]}" update >&2 && "${get[@]}" install -y --no-install-recommends "$@" >&2 && return
+    stop "could not install the Debian packages $*"
+}
+
+in_registry() {
+    compgen -G "/usr/share/cargo/registry/$1-[0-9]*" >/dev/null
+}
+
+# Debian 12's own rustc (1.63) is too old for the ported Rust; its rustc-web is not.
+compiler() {
+    apt-cache show rustc >/dev/null 2>&1 || apt-get update >&2 || true
+    if apt-cache show rustc-web cargo-web >/dev/null 2>&1; then echo rustc-web cargo-web; else echo rustc cargo; fi
+}
+
+install_missing() {
+    local missing=()
+    if ! command -v cargo >/dev/null || ! command -v rustc >/dev/null; then
+        read -ra missing <<<"$(compiler)"
+    fi
+    in_registry serde && in_registry serde_derive || missing+=(librust-serde-dev librust-serde+derive-dev)
+    in_registry serde_json || missing+=(librust-serde-json-dev)
+    in_registry thiserror || missing+=(librust-thiserror-dev)
+    [ ${#missing[@]} -eq 0 ] || install "${missing[@]}"
+}
+
+program=${1:-}
+archives=${ESTIMATOR_LIB:-target/staticlib}
+case $program in
+    self-test | lists) ;;
+    leaves) [ -f "$archives/libleaves.a" ] || stop "no $archives/libleaves.a: \`rt staticlib leaves\` makes it" ;;
+    *) stop "name a program: self-test, lists or leaves" 2 ;;
+esac
+shift
+
+rust=${KAN_RUST:-../shared/docs/src}
+for file in src/network/kan.rs src/data_structures/spline.rs; do
+    [ -f "$rust/$file" ] || stop "no ported Rust at $rust/$file: set KAN_RUST"
+done
+install_missing
+
+# Cargo finds oracle/.cargo/config.toml only from inside that folder.
+target=$PWD/target/oracle
+(cd oracle && cargo build --quiet --release --target-dir "$target" --bin "$program") ||
+    stop "the build failed (if it names versions: Cargo.lock is Debian 12's, remove it elsewhere)" 1
+exec "$target/release/$program" "$@"

@@ -1,0 +1,16 @@
+//! The oracle: the ported Rust, built unchanged, with document 01's exponential E for `exp`.
+//!
+//! `network::kan` and `data_structures::spline` are the published files, taken where they lie
+//! (`build.rs`). Everything else here is what the oracle's programs share.
+
+pub mod arguments;
+pub mod bits;
+pub mod draws;
+pub mod exponential;
+pub mod grids;
+pub mod inputs;
+pub mod ported;
+pub mod tally;
+mod whole;
+
+include!(concat!(env!("OUT_DIR"), "/ported_modules.rs"));

@@ -10,7 +10,7 @@ use mathlib.Core.Logic.{inl, inr, ⊎-elim}
 use mathlib.Core.List.{List, [], _∷_, _++_, append-assoc, append-nil}
 use lib.ListN.{length, take, drop, getD, set, length-append, length-drop}
 use lib.Seq.{drop-cons, set-at, take-all, take-at, drop-at, drop-drop, drop-length}
-use lib.Seq.{getD-append-seam, getD-append-add, getD-drop}
+use lib.Seq.{getD-append-seam, getD-append-add, getD-drop, ext-getD}
 use borrow.Rule.Slice.PartMut.{putMid, post-is}
 use lib.Ieee.{Float}
 use Rattle.floats.specs.Binary32.{_⊕_}
@@ -74,6 +74,15 @@ tab-kept f n d e h p = let l : length (tabulate f n) ≡ n = tab-length f n in a
 -- the whole list is filled
 pub tab-whole : {A : Type 0} (f : ℕ → A) (n : ℕ) (d e : List A) → e ≡ tabulate f n ++ drop n d → n ≡ length d → e ≡ tabulate f (length d)
 tab-whole f n d e p q = p ∙ rw (q, drop-length, append-nil)
+
+-- a list is the table of its own numbers
+pub tab-self : {A : Type 0} (l : List A) (x : A) → tabulate (λ (i : ℕ). getD l i x) (length l) ≡ l
+tab-self {A} l x =
+    let f : ℕ → A = λ i. getD l i x in
+    let t = tabulate f (length l) in
+    ext-getD x t l (tab-length f (length l)) (λ k h.
+    let b : k < length l = rw (tab-length f (length l)) at h in
+    ap (λ (z : List A). getD z k x) (sym (append-nil t)) ∙ tab-get f (length l) k b [] x)
 
 -- ---- a test of every number
 pub all-none : (p : ℕ → Bool) → allTo p 0 ≡ true

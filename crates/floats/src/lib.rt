@@ -1,5 +1,5 @@
 // Inner crate: binary32 in the words of the definitions (specs/), its laws (proofs/), and the
-// three functions on slices that every crate above needs.
+// few functions on slices that every crate above needs.
 ghost use mathlib.Core.Path.{_≡_};
 ghost use mathlib.Core.List.{_++_};
 ghost use Prim.Native.Nat.{_≤_};
@@ -32,5 +32,15 @@ pub fn clear(xs: &mut [f32], n: usize)
 {
     for i in 0..n {
         xs[i] = 0.0;
+    }
+}
+
+// The whole of `from` at the front of `to`; the rest is untouched.
+pub fn copy(from: &[f32], to: &mut [f32])
+    requires { ⌜ length (now from) ≤ length (now to) ⌝ }
+    ensures { λ _. ⌜ now (to .exit) ≡ now (from .entry) ++ drop (length (now (from .entry))) (now (to .entry)) ⌝ }
+{
+    for i in 0..from.len() {
+        to[i] = from[i];
     }
 }

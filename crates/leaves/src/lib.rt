@@ -2,6 +2,7 @@
 // Since C can't be asked to have checked anything, each answers all arguments.
 ghost use mathlib.Core.Path.{_≡_};
 ghost use Rattle.exponential.specs.Exponential.{expOf};
+ghost use Rattle.generator.specs.Root.{rootOf};
 ghost use Rattle.spline.specs.Activation.{siluOf, siluDerivativeOf};
 ghost use Rattle.spline.specs.Spline.{valueOf, slopeOf};
 ghost use Rattle.leaves.specs.Leaves.{gridOf, orZero};
@@ -26,6 +27,13 @@ pub extern "C" fn kan_silu_derivative(x: f32) -> f32
     ensures { λ r. ⌜ r ≡ siluDerivativeOf x ⌝ }
 {
     spline::silu_derivative(x)
+}
+
+#[no_mangle]
+pub extern "C" fn kan_root(n: usize) -> f32
+    ensures { λ r. ⌜ r ≡ rootOf n ⌝ }
+{
+    generator::root(n)
 }
 
 #[no_mangle]

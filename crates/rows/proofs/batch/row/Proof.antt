@@ -1,0 +1,62 @@
+-- `rows::row` meets its contract. Assumes nothing.
+use Rattle.rows.proofs.Batches.{row-short, row-full}
+use borrow.Author.Needs.{needs}
+use Rattle.rows.proofs.batch.row.Statement.{statement}
+use Rattle.rows.proofs.batch.row.Tie as tie
+
+mul-at : tie.Need-mul-at
+mul-at c = search needs
+
+sub-left : tie.Need-sub-left
+sub-left c = search needs
+
+mul-result : tie.Need-mul-result
+mul-result c = search needs
+
+sub-result : tie.Need-sub-result
+sub-result c = search needs
+
+part-result-start : tie.Need-part-result-start
+part-result-start c = search needs
+
+part-result-end : tie.Need-part-result-end
+part-result-end c = search needs
+
+returns : tie.Need-returns
+returns c = row-short _ _ _ (c .before .if1 .taken)
+
+add-end : tie.Need-add-end
+add-end c = search needs
+
+mul-result-2 : tie.Need-mul-result-2
+mul-result-2 c = search needs
+
+sub-result-2 : tie.Need-sub-result-2
+sub-result-2 c = search needs
+
+part-result-start-2 : tie.Need-part-result-start-2
+part-result-start-2 c = search needs
+
+part-result-end-2 : tie.Need-part-result-end-2
+part-result-end-2 c = search needs
+
+returns-2 : tie.Need-returns-2
+returns-2 c = row-full _ _ _
+
+pub row-spec : {M : Type 1} → statement M
+row-spec =
+    tie.close
+    (tie.spec
+    mul-at
+    sub-left
+    mul-result
+    sub-result
+    part-result-start
+    part-result-end
+    returns
+    add-end
+    mul-result-2
+    sub-result-2
+    part-result-start-2
+    part-result-end-2
+    returns-2)

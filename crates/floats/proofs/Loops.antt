@@ -1,7 +1,7 @@
 -- What a loop that sums, fills or tests needs, and the one product fact of parts. Assumes nothing.
 use Prim.Native.Nat.{ℕ, zero, suc, _-_, _+_, _*_, _≤_, _<_}
 use native.Mathlib.Nat.{le-trans, mul-le-mul-right, suc-mul, zero-mul, le-of-eq, le-refl, lt-suc-self}
-use native.Mathlib.Nat.{add-zero, eq-or-lt-of-le, le-of-suc-le-suc}
+use native.Mathlib.Nat.{add-zero, sub-zero, eq-or-lt-of-le, le-of-suc-le-suc}
 use native.Mathlib.Numerals.{add-one}
 use native.Mathlib.Omega.{arith}
 use mathlib.Core.Path.{_≡_, refl, sym, ap, _∙_}
@@ -9,7 +9,7 @@ use mathlib.Core.Bool.{Bool, true, false, _&&_}
 use mathlib.Core.Logic.{inl, inr, ⊎-elim}
 use mathlib.Core.List.{List, [], _∷_, _++_, append-assoc, append-nil}
 use lib.ListN.{length, take, drop, getD, set, length-append, length-drop}
-use lib.Seq.{drop-cons, set-at, take-all, take-at, drop-at, drop-drop, drop-length}
+use lib.Seq.{drop-cons, set-at, take-all, take-at, drop-at, drop-drop, drop-length, length-take-le}
 use lib.Seq.{getD-append-seam, getD-append-add, getD-drop, ext-getD}
 use borrow.Rule.Slice.PartMut.{putMid, post-is}
 use lib.Ieee.{Float}
@@ -151,6 +151,13 @@ rest n l = take-all (length l - n) (drop n l) (le-of-eq (length-drop n l))
 
 pub rest-length : {A : Type 0} (n : ℕ) (l : List A) → length (take (length l - n) (drop n l)) ≡ length l - n
 rest-length n l = ap length (rest n l) ∙ length-drop n l
+
+-- the front of a list, as the code's `&l[0..n]` has it
+pub front : {A : Type 0} (n : ℕ) (l : List A) → take (n - 0) (drop 0 l) ≡ take n l
+front n l = ap (λ (k : ℕ). take k l) (sub-zero n)
+
+pub front-length : {A : Type 0} (n : ℕ) (l : List A) → n ≤ length l → length (take (n - 0) (drop 0 l)) ≡ n
+front-length n l h = ap length (front n l) ∙ length-take-le n l h
 
 -- cut twice or once
 pub cut : {A : Type 0} (l : List A) (a b : ℕ) → take (length l - (a + b)) (drop (a + b) l) ≡ drop b (drop a l)

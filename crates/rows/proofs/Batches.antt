@@ -4,7 +4,7 @@ use mathlib.Core.Bool.{Bool, true, false, cond}
 use mathlib.Core.Logic.{⊎-elim}
 use mathlib.Core.List.{List}
 use Prim.Native.Nat.{ℕ, zero, suc, _+_, _-_, _*_, _/_, _%_, _≤_, _<_}
-use native.Mathlib.Nat.{le-trans, le-of-eq, le-of-lt, mul-le-mul-right, suc-mul, div-add-mod', eq-or-lt-of-le, lt-of-le-of-lt, lt-of-lt-of-le}
+use native.Mathlib.Nat.{le-trans, le-of-eq, le-of-lt, mul-le-mul-left, mul-le-mul-right, suc-mul, div-add-mod', eq-or-lt-of-le, lt-of-le-of-lt, lt-of-lt-of-le}
 use native.Mathlib.Numerals.{add-one}
 use native.Mathlib.Omega.{arith}
 use lib.Dec.{eqb}
@@ -12,7 +12,7 @@ use lib.ListN.{length, take, drop, length-drop}
 use lib.Seq.{take-all}
 use lib.Ieee.{Float}
 use borrow.Author.Tests.{eq-eqb, ne-eqb, eqb-true, eqb-false}
-use Rattle.rows.specs.Batch.{rowsIn, rowAt, firstFault}
+use Rattle.rows.specs.Batch.{rowsIn, rowAt, firstFault, orElse}
 
 -- ---- how many rows
 pub rows-whole : (n w : ℕ) → n % w ≡ 0 → n / w ≡ rowsIn n w
@@ -22,6 +22,11 @@ rows-whole n w e = sym (rw (eq-eqb (n % w) 0 e) (omega arith))
 pub rows-short : (n w : ℕ) → (n % w ≡ 0 → ⊥) → n / w + 1 ≡ rowsIn n w
 unfolding rowsIn
 rows-short n w e = sym (rw (ne-eqb (n % w) 0 e))
+
+pub quotient-below : (n w : ℕ) → 0 < w → (n % w ≡ 0 → ⊥) → n / w + 1 ≤ n
+quotient-below n w W e =
+    let a : n / w * 1 ≤ n / w * w = mul-le-mul-left (n / w) W in
+    omega (arith, a, div-add-mod' n w)
 
 -- row r begins within the batch
 pub row-begins : (n w r : ℕ) → 0 < w → r < rowsIn n w → r * w < n
@@ -66,3 +71,8 @@ unfolding firstFault
 first-stop f r zero h p q = absurd (omega arith)
 first-stop f r (suc n) h p q =
     ⊎-elim (λ (e : r ≡ n). rw (← e, p)) (λ l. let d = first-stop f r n l p q in rw (d, ne-eqb (f r) 0 q)) (eq-or-lt-of-le (omega arith))
+
+-- ---- one check after the other
+pub or-first : (m n : ℕ) → (m ≡ 0 → ⊥) → m ≡ orElse m n
+or-first zero n h = absurd (h refl)
+or-first (suc m) n h = refl

@@ -25,7 +25,6 @@ abbrev pub rowFaultAt : ℕ → ℕ → ℕ → List Float → ℕ → ℕ
 rowFaultAt w notWide notFinite xs r = rowFault w notWide notFinite (rowAt xs w r)
 
 unfoldable pub rowsFault : ℕ → ℕ → ℕ → List Float → ℕ
-unfolding rowFault rowsIn firstFault
 rowsFault w notWide notFinite xs = firstFault (rowFaultAt w notWide notFinite xs) (rowsIn (length xs) w)
 
 -- one check after the other, up to the first that does not give 0
@@ -39,7 +38,6 @@ faultIf false n = 0
 
 -- "12, 13, inputs row by row (14 before 15), targets row by row (16 before 17), 18": 0 where the batch is sound
 unfoldable pub batchFault : ℕ → ℕ → List Float → List Float → ℕ
-unfolding rowsIn rowsFault
 batchFault w v xs ts =
     cond (eqb (rowsIn (length xs) w) (rowsIn (length ts) v))
     (cond (eqb (rowsIn (length xs) w) 0) 13

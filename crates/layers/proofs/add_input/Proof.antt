@@ -88,7 +88,7 @@ loop-less : tie.Need-loop-less Inv-loop μ-loop
 loop-less c = omega arith
 
 loop-again : tie.Need-loop-again Inv-loop μ-loop
-unfolding edgeOf
+unfolding edgeOf edgeWith
 loop-again c =
     let filled = c .before .before .before .before .loop .inv .2 in (
       omega arith,

@@ -1,89 +1,139 @@
+-- `rows::run_layers` meets its contract: after l turns the holder has the values of l layers. Assumes nothing.
+use borrow.Author.Needs.{needs}
+use mathlib.Core.Path.{_≡_, refl, sym, ap, _∙_}
+use mathlib.Core.Bool.{Bool, true, false}
+use native.Mathlib.Nat.{le-trans, le-add-left}
+use mathlib.Core.List.{List}
+use Prim.Native.Nat.{ℕ, _+_, _-_, _*_, _≤_, _<_}
+use native.Mathlib.Omega.{arith}
+use lib.ListN.{length, take, drop}
+use lib.Ieee.{Float}
+use borrow.Author.Tests.{not-true, not-false}
+use Rattle.floats.proofs.Loops.{rest-length, row-room}
+use Rattle.spline.specs.declared.Grid.{Grid}
+use Rattle.layers.specs.Basis.{Basis, basisOf}
+use Rattle.layers.specs.Widths.{widthAt, layerSize, paramsTo}
+use Rattle.layers.proofs.Widths.{params-room}
+use Rattle.rows.specs.Turns.{Fits, AtMost, Turned}
+use Rattle.rows.proofs.Passes.{Kept, kept-turn, Walked, set-out, one-layer, stopped, arrived}
 use Rattle.rows.proofs.pass.run_layers.Statement.{statement}
 use Rattle.rows.proofs.pass.run_layers.Tie as tie
-use Rattle.rows.proofs.pass.run_layers.Reads as reads
-use Rattle.rows.proofs.pass.run_layers.Lts as lts
-use Rattle.rows.proofs.pass.turn.Reads as turn-reads
+
+-- the turn's layer lies within the model
+inside : {g : Grid} {ps : List Float} {ws : List ℕ} {xs a₀ b₀ a b : List Float} (l at : ℕ) → l < length ws - 1 → Fits g ps ws a₀ b₀
+    → Walked (basisOf g) ps ws xs a₀ b₀ l at a b → at + layerSize (g .intervals + 5) ws l ≤ length ps
+inside {g} {ps} {ws} l at h f k = omega (arith, params-room (g .intervals + 5) ws l (length ws - 1) h, k .part, f .params)
+
+-- both slices have room for every width
+most : (ws : List ℕ) (a₀ b₀ a b : List Float) → AtMost ws (length a₀) → AtMost ws (length b₀) → Kept ws a₀ b₀ a b
+    → (j : ℕ) → j < length ws → (widthAt ws j ≤ length a) × (widthAt ws j ≤ length b)
+most ws a₀ b₀ a b p q k j h = (omega (arith, p j h, k .sizeA), omega (arith, q j h, k .sizeB))
+
+keeps : {g : Grid} {ps qs : List Float} {ws : List ℕ} {xs a₀ b₀ a b a' b' : List Float} {r : Bool} (l at : ℕ) → l < length ws - 1
+    → Fits g ps ws a₀ b₀ → Walked (basisOf g) ps ws xs a₀ b₀ l at a b
+    → Turned (basisOf g) qs l (widthAt ws l) (widthAt ws (l + 1)) a b a' b' r → Kept ws a₀ b₀ a' b'
+keeps {g} {ps} {qs} {ws} {xs} {a₀} {b₀} {a} {b} {a'} {b'} {r} l at h f k t =
+    let n = most ws a₀ b₀ a b (f .first) (f .second) (k .kept) (l + 1) (omega arith) in
+    kept-turn (basisOf g) qs ws a₀ b₀ l (widthAt ws l) (widthAt ws (l + 1)) a b a' b' r (n .0) (n .1) (λ m q. q (l + 1) (omega arith)) t (k .kept)
 
 abbrev Inv-loop : tie.InvT-loop
-Inv-loop grid widths model first₀ second₀ layers stride at₀ l₀ first second at l = ?
+Inv-loop grid widths model first₀ second₀ layers stride at₀ l₀ first second at l =
+    (l ≤ layers) × Walked (basisOf grid) model widths (take (widthAt widths 0) second₀) first₀ second₀ l at first second
 
 abbrev μ-loop : tie.MeasureT-loop
-μ-loop grid widths model first₀ second₀ layers stride at₀ l₀ first second at l = ?
+μ-loop grid widths model first₀ second₀ layers stride at₀ l₀ first second at l = layers - l
 
 sub-layers : tie.Need-sub-layers Inv-loop μ-loop
-sub-layers c = ?
+sub-layers c = omega arith
 
 add-stride : tie.Need-add-stride Inv-loop μ-loop
-add-stride c = ?
+add-stride c = omega arith
 
 loop-holds : tie.Need-loop-holds Inv-loop μ-loop
-loop-holds c = ?
+loop-holds c = (omega arith, set-out _ _ _ _ _ _ refl)
 
 mul-w : tie.Need-mul-w Inv-loop μ-loop
-mul-w c = ?
+mul-w c = search needs
 
 shared-slice-read-w : tie.Need-shared-slice-read-w Inv-loop μ-loop
-shared-slice-read-w c = ?
+shared-slice-read-w c = omega arith
 
 add-next : tie.Need-add-next Inv-loop μ-loop
-add-next c = ?
+add-next c = omega arith
 
 mul-n : tie.Need-mul-n Inv-loop μ-loop
-mul-n c = ?
+mul-n c = search needs
 
 shared-slice-read-n : tie.Need-shared-slice-read-n Inv-loop μ-loop
-shared-slice-read-n c = ?
+shared-slice-read-n c = omega arith
 
 mul-turn : tie.Need-mul-turn Inv-loop μ-loop
-mul-turn c = ?
+mul-turn c = omega (arith, inside _ _ (c .before .before .loop-test .taken) (c .before .before .before .before .before .before .before .before .before .pre) (c .before .before .before .loop .inv .1))
 
 sub-turn : tie.Need-sub-turn Inv-loop μ-loop
-sub-turn c = ?
+sub-turn c = omega (arith, inside _ _ (c .before .before .loop-test .taken) (c .before .before .before .before .before .before .before .before .before .pre) (c .before .before .before .loop .inv .1))
 
 part-turn-start : tie.Need-part-turn-start Inv-loop μ-loop
-part-turn-start c = ?
+part-turn-start c = omega (arith, inside _ _ (c .before .before .loop-test .taken) (c .before .before .before .before .before .before .before .before .before .pre) (c .before .before .before .loop .inv .1))
 
 part-turn-end : tie.Need-part-turn-end Inv-loop μ-loop
-part-turn-end c = ?
+part-turn-end c = omega (arith, inside _ _ (c .before .before .loop-test .taken) (c .before .before .before .before .before .before .before .before .before .pre) (c .before .before .before .loop .inv .1))
 
 turn-requires : tie.Need-turn-requires Inv-loop μ-loop
-turn-requires c κs = ?
+turn-requires c κs =
+    let p = c .before .before .before .before .before .before .before .before .before .before .before .before .pre in
+    let k = c .before .before .before .before .before .before .loop .inv .1 .kept in
+    let w = most _ _ _ _ _ (p .first) (p .second) k (c .before .before .before .before .before .before .loop .l) (omega arith) in
+    let n = most _ _ _ _ _ (p .first) (p .second) k (c .before .before .before .before .before .before .loop .l + 1) (omega arith) in
+    record {
+      grid = p .grid;
+      some = p .positive _ (omega arith);
+      fromFirst = w .0;
+      fromSecond = w .1;
+      toFirst = n .0;
+      toSecond = n .1;
+      params = rw rest-length (omega (arith, inside _ _ (c .before .before .before .before .before .loop-test .taken) (c .before .before .before .before .before .before .before .before .before .before .before .before .pre) (c .before .before .before .before .before .before .loop .inv .1)));
+    }
 
 same-length : tie.Need-same-length Inv-loop μ-loop
-same-length c = ?
+same-length c = keeps _ _ (c .before .before .before .before .before .before .before .before .before .before .before .loop-test .taken) (c .before .before .before .before .before .before .before .before .before .before .before .before .before .before .before .before .before .before .pre) (c .before .before .before .before .before .before .before .before .before .before .before .before .loop .inv .1) (c .before .before .before .before .before .turn .ensures) .sizeA
 
 same-length-2 : tie.Need-same-length-2 Inv-loop μ-loop
-same-length-2 c = ?
+same-length-2 c = keeps _ _ (c .before .before .before .before .before .before .before .before .before .before .before .loop-test .taken) (c .before .before .before .before .before .before .before .before .before .before .before .before .before .before .before .before .before .before .pre) (c .before .before .before .before .before .before .before .before .before .before .before .before .loop .inv .1) (c .before .before .before .before .before .turn .ensures) .sizeB
 
 returns : tie.Need-returns Inv-loop μ-loop
-returns c = ?
+returns c =
+    let kept = keeps _ _ (c .before .before .before .before .before .before .before .before .before .before .before .loop-test .taken) (c .before .before .before .before .before .before .before .before .before .before .before .before .before .before .before .before .before .before .pre) (c .before .before .before .before .before .before .before .before .before .before .before .before .loop .inv .1) (c .before .before .before .before .before .turn .ensures) in
+    stopped _ _ _ _ _ _ _ _ _ _ _ _ _ (not-true _ (c .if1 .taken)) (c .before .before .before .before .before .before .before .before .before .before .before .loop-test .taken) kept (c .before .before .before .before .before .before .before .before .before .before .before .before .loop .inv .1) (c .before .before .before .before .before .turn .ensures)
 
 mul-at : tie.Need-mul-at Inv-loop μ-loop
-mul-at c = ?
+mul-at c = omega (arith, row-room _ _ _ (c .before .before .before .before .before .before .before .before .before .before .before .before .before .before .before .before .before .before .pre .positive (c .before .before .before .before .before .before .before .before .before .before .before .before .loop .l + 1) (omega arith)) (le-trans (le-add-left _ _) (inside _ _ (c .before .before .before .before .before .before .before .before .before .before .before .loop-test .taken) (c .before .before .before .before .before .before .before .before .before .before .before .before .before .before .before .before .before .before .pre) (c .before .before .before .before .before .before .before .before .before .before .before .before .loop .inv .1))))
 
 mul-at-2 : tie.Need-mul-at-2 Inv-loop μ-loop
-mul-at-2 c = ?
+mul-at-2 c = omega (arith, inside _ _ (c .before .before .before .before .before .before .before .before .before .before .before .loop-test .taken) (c .before .before .before .before .before .before .before .before .before .before .before .before .before .before .before .before .before .before .pre) (c .before .before .before .before .before .before .before .before .before .before .before .before .loop .inv .1))
 
 add-at : tie.Need-add-at Inv-loop μ-loop
-add-at c = ?
+add-at c = omega (arith, inside _ _ (c .before .before .before .before .before .before .before .before .before .before .before .loop-test .taken) (c .before .before .before .before .before .before .before .before .before .before .before .before .before .before .before .before .before .before .pre) (c .before .before .before .before .before .before .before .before .before .before .before .before .loop .inv .1))
 
 add-l : tie.Need-add-l Inv-loop μ-loop
-add-l c = ?
+add-l c = omega arith
 
 loop-less : tie.Need-loop-less Inv-loop μ-loop
-loop-less c = ?
+loop-less c = omega arith
 
 loop-again : tie.Need-loop-again Inv-loop μ-loop
-loop-again c = ?
+loop-again c =
+    let kept = keeps _ _ (c .before .before .before .before .before .before .before .before .before .before .before .loop-test .taken) (c .before .before .before .before .before .before .before .before .before .before .before .before .before .before .before .before .before .before .pre) (c .before .before .before .before .before .before .before .before .before .before .before .before .loop .inv .1) (c .before .before .before .before .before .turn .ensures) in
+    (omega arith, one-layer _ _ _ _ _ _ _ _ _ _ _ _ _ (not-false _ (c .if1 .left)) kept (c .before .before .before .before .before .before .before .before .before .before .before .before .loop .inv .1) (c .before .before .before .before .before .turn .ensures))
 
 same-length-3 : tie.Need-same-length-3 Inv-loop μ-loop
-same-length-3 c = ?
+same-length-3 c = c .before .loop .inv .1 .kept .sizeA
 
 same-length-4 : tie.Need-same-length-4 Inv-loop μ-loop
-same-length-4 c = ?
+same-length-4 c = c .before .loop .inv .1 .kept .sizeB
 
 returns-2 : tie.Need-returns-2 Inv-loop μ-loop
-returns-2 c = ?
+returns-2 c = arrived _ _ _ _ _ _ _ _ _ _ (omega arith) (c .before .loop .inv .1)
 
 pub run-layers-spec : {M : Type 1} → statement M
 run-layers-spec =

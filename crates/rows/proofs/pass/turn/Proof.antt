@@ -1,10 +1,19 @@
+-- `rows::turn` meets its contract, whichever way the layer goes. Assumes nothing.
+use mathlib.Core.Path.{_≡_, ap, _∙_}
+use mathlib.Core.List.{List, _++_}
+use Prim.Native.Nat.{ℕ, _-_, _*_, _%_, _≤_}
+use native.Mathlib.Omega.{arith}
+use lib.ListN.{length, take, drop}
+use borrow.Author.Tests.{eq-eqb, ne-eqb}
+use lib.Ieee.{Float}
+use Rattle.floats.specs.Sums.{allFinite}
+use Rattle.floats.proofs.Loops.{front, front-length}
+use Rattle.layers.specs.Basis.{basisOf}
+use Rattle.layers.specs.Layer.{layerOf}
+use Rattle.rows.proofs.Passes.{front-in, fronted}
 use borrow.Author.Needs.{needs}
 use Rattle.rows.proofs.pass.turn.Statement.{statement}
 use Rattle.rows.proofs.pass.turn.Tie as tie
-use Rattle.rows.proofs.pass.turn.Reads as reads
-use Rattle.rows.proofs.pass.turn.Lts as lts
-use Rattle.floats.proofs.all_finite.Reads as all-finite-reads
-use Rattle.layers.proofs.layer_forward.Reads as layer-forward-reads
 
 sub-layer-forward : tie.Need-sub-layer-forward
 sub-layer-forward c = search needs
@@ -16,7 +25,10 @@ part-layer-forward-end : tie.Need-part-layer-forward-end
 part-layer-forward-end c = search needs
 
 layer-forward-requires : tie.Need-layer-forward-requires
-layer-forward-requires c κs = ?
+layer-forward-requires c κs =
+    let p = c .before .before .before .before .before .before .before .pre in
+    let r : length (take (c .before .before .before .before .before .before .before .args .w - 0) (drop 0 (c .before .before .before .before .before .before .before .args .second .now))) ≡ c .before .before .before .before .before .before .before .args .w = front-length _ _ (p .fromSecond) in
+    record { grid = p .grid; some = p .some; outputs = p .toFirst; params = rw r (p .params) }
 
 sub-all-finite : tie.Need-sub-all-finite
 sub-all-finite c = search needs
@@ -40,7 +52,10 @@ part-layer-forward-end-2 : tie.Need-part-layer-forward-end-2
 part-layer-forward-end-2 c = search needs
 
 layer-forward-requires-2 : tie.Need-layer-forward-requires-2
-layer-forward-requires-2 c κs = ?
+layer-forward-requires-2 c κs =
+    let p = c .before .before .before .before .before .before .before .pre in
+    let r : length (take (c .before .before .before .before .before .before .before .args .w - 0) (drop 0 (c .before .before .before .before .before .before .before .args .first .now))) ≡ c .before .before .before .before .before .before .before .args .w = front-length _ _ (p .fromFirst) in
+    record { grid = p .grid; some = p .some; outputs = p .toSecond; params = rw r (p .params) }
 
 sub-all-finite-2 : tie.Need-sub-all-finite-2
 sub-all-finite-2 c = search needs
@@ -61,7 +76,12 @@ same-length-2 : tie.Need-same-length-2
 same-length-2 c = search needs
 
 returns : tie.Need-returns
-returns c = ?
+returns c =
+    let e = eq-eqb _ _ (c .before .before .before .before .before .before .before .before .before .if1 .taken) in
+    let s = c .before .before .before .before .before .before .before .before .before .before .before .before .before .args in
+    let B = basisOf (s .grid) in
+    let a' = front-in B (s .params .now) (s .w) (s .n) (s .second .now) (s .first .now) _ (c .before .before .before .before .before .layer-forward .ensures) in
+    record { finite = c .all-finite .ensures ∙ ap allFinite (fronted B _ _ _ _ _ a') ∙ rw e; first = rw e a'; second = rw e }
 
 same-length-3 : tie.Need-same-length-3
 same-length-3 c = search needs
@@ -70,7 +90,12 @@ same-length-4 : tie.Need-same-length-4
 same-length-4 c = search needs
 
 returns-2 : tie.Need-returns-2
-returns-2 c = ?
+returns-2 c =
+    let e = ne-eqb _ _ (c .before .before .before .before .before .before .before .before .before .if1 .left) in
+    let s = c .before .before .before .before .before .before .before .before .before .before .before .before .before .args in
+    let B = basisOf (s .grid) in
+    let b' = front-in B (s .params .now) (s .w) (s .n) (s .first .now) (s .second .now) _ (c .before .before .before .before .before .layer-forward2 .ensures) in
+    record { finite = c .all-finite2 .ensures ∙ ap allFinite (fronted B _ _ _ _ _ b') ∙ rw e; first = rw e; second = rw e b' }
 
 pub turn-spec : {M : Type 1} → statement M
 turn-spec =

@@ -1,0 +1,17 @@
+#!/usr/bin/env bash
+# A few seconds' worth of each comparison with the ported Rust, for `make test`. Where the Rust, a compiler or the packages
+# can't be had it says so and ends well: the stored list, which the program `vectors` replays, was made from the same runs.
+set -euo pipefail
+cd "$(dirname "$0")/.."
+
+compare() {
+    local status=0
+    oracle/run.sh "$@" || status=$?
+    [ $status -ne 3 ] || { echo "oracle: comparison '$1' left out, see above" >&2; exit 0; }
+    return $status
+}
+
+rt staticlib leaves >/tmp/estimator-leaves.log 2>&1 || { cat /tmp/estimator-leaves.log; exit 1; }
+rm -f /tmp/estimator-leaves.log
+compare self-test
+compare leaves --every 4099 --basis 2000

@@ -20,6 +20,11 @@ unfoldable pub firstFault : (ℕ → ℕ) → ℕ → ℕ
 firstFault f zero = 0
 firstFault f (suc n) = cond (eqb (firstFault f n) 0) (f n) (firstFault f n)
 
+-- how many stand before it, or n where all are 0
+unfoldable pub doneTo : (ℕ → ℕ) → ℕ → ℕ
+doneTo f zero = 0
+doneTo f (suc n) = cond (eqb (firstFault f (suc n)) 0) (suc n) (doneTo f n)
+
 -- "row by row (14 before 15)"
 abbrev pub rowFaultAt : ℕ → ℕ → ℕ → List Float → ℕ → ℕ
 rowFaultAt w notWide notFinite xs r = rowFault w notWide notFinite (rowAt xs w r)

@@ -1,0 +1,6 @@
+pub mod Wholes
+pub mod Tests
+pub mod Totals
+pub mod Folded
+pub mod Sized
+pub mod Examples

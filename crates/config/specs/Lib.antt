@@ -1,0 +1,3 @@
+pub mod Config
+pub mod Fold
+pub mod Sized

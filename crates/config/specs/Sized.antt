@@ -1,0 +1,32 @@
+-- What an accepted configuration has. Callers of inner crates, which ask for it, show it by `sized` of proofs/Sized.antt.
+use Prim.Native.Nat.{ℕ, _+_, _-_, _≤_, _<_}
+use mathlib.Core.Path.{_≡_}
+use mathlib.Core.List.{List}
+use lib.Dec.{T}
+use lib.ListN.{length}
+use lib.Ieee.Scale.{finite}
+use Rattle.spline.specs.declared.Grid.{Grid}
+use Rattle.config.specs.declared.Sizes.{Sizes}
+use Rattle.layers.specs.Widths.{widthAt, paramsTo, widestTo, widthsTo}
+use Rattle.config.specs.Config.{endsSound, stepsSound}
+
+pub record Sized (ws : List ℕ) (g : Grid) (s : Sizes) : Type 0 where
+  -- the grid
+  pub someGrid : 1 ≤ g .intervals
+  pub smallEdge : g .intervals + 5 ≤ 250000
+  pub grid : g .intervals ≤ 250000
+  pub loFinite : T (finite (g .lo))
+  pub hiFinite : T (finite (g .hi))
+  pub ends : T (endsSound g)
+  pub steps : T (stepsSound g)
+  -- the widths
+  pub some : 2 ≤ length ws
+  pub positive : (j : ℕ) → j < length ws → 0 < widthAt ws j
+  pub within : (j : ℕ) → j < length ws → widthAt ws j ≤ s .widest
+  -- P, W and N
+  pub parameters : s .parameters ≡ paramsTo (g .intervals + 5) ws (length ws - 1)
+  pub widest : s .widest ≡ widestTo ws (length ws)
+  pub nodes : s .nodes ≡ widthsTo ws (length ws)
+  pub small : s .parameters ≤ 250000
+  pub narrow : s .widest ≤ 250000
+  pub fewNodes : s .nodes ≤ 250000

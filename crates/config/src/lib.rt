@@ -1,0 +1,302 @@
+// Public crate: the configuration checks of document 01, numbers 1 to 7 and 4, and the sizes that an accepted one has.
+ghost use mathlib.Core.Path.{_≡_};
+ghost use Prim.Native.Nat.{_+_, _*_, _-_, _^_, _≤_, max, min};
+ghost use Rattle.config.specs.Config.{refuse, intervalsSound, endsSound, stepsSound, checkOf, countOf};
+ghost use Rattle.config.specs.Fold.{wholeOf, isTooLarge, layerOf, uncount, addLayer, emptyShape, stepOf, perEdgeOf};
+ghost use Rattle.config.specs.Fold.{domainSound, sizedOf, verdictOf};
+use spline::Grid;
+
+// What a refused call says: document 01's number, and what that number carries (0 where it carries nothing).
+pub struct Refusal {
+    pub number: u32,
+    pub carried: usize,
+}
+
+// P, W and N of document 01: all parameters, the largest width, the sum of the widths.
+pub struct Sizes {
+    pub parameters: usize,
+    pub widest: usize,
+    pub nodes: usize,
+}
+
+pub enum Checked {
+    Sound(Sizes),
+    Refused(Refusal),
+}
+
+// The answer of a call that gives nothing but what it wrote.
+pub enum Outcome {
+    Done,
+    Refused(Refusal),
+}
+
+pub enum Counted {
+    Parameters(usize),
+    Refused(Refusal),
+}
+
+// What the widths taken so far come to: all that the checks ask of them. Widths are taken one at a time, so that those of
+// a slice and those in the bytes of an image meet the same rules.
+pub struct Shape {
+    // The width taken last; 0 before the first, which so makes a layer with no edge.
+    pub last: usize,
+    // Whether a width was 0.
+    pub zero: bool,
+    // Whether a product of neighbours was 2^64 or more.
+    pub wide: bool,
+    // The parameters so far, or the first 5 or 6.
+    pub total: Counted,
+    pub widest: usize,
+    // The sum of the widths. It stops at 2^64 - 1, for widths whose sum is larger are refused.
+    pub nodes: usize,
+}
+
+const MOST_PARAMETERS: usize = 250_000;
+// 2^63 - 8
+const MOST_INTERVALS: usize = 9_223_372_036_854_775_800;
+// The first count of intervals g at which 2/g no longer moves -1.
+const STUCK_INTERVALS: usize = 67_108_862;
+
+// A sum or product of sizes: the number, where it is below 2^64.
+enum Whole {
+    Below(usize),
+    TooLarge,
+}
+
+fn times(a: usize, b: usize) -> Whole
+    ensures { λ r. ⌜ r ≡ wholeOf (a * b) ⌝ }
+{
+    if a == 0 {
+        return Whole::Below(0);
+    }
+    if b <= usize::MAX / a {
+        Whole::Below(a * b)
+    } else {
+        Whole::TooLarge
+    }
+}
+
+fn plus(a: usize, b: usize) -> Whole
+    ensures { λ r. ⌜ r ≡ wholeOf (a + b) ⌝ }
+{
+    if b <= usize::MAX - a {
+        Whole::Below(a + b)
+    } else {
+        Whole::TooLarge
+    }
+}
+
+fn is_too_large(whole: Whole) -> bool
+    ensures { λ r. ⌜ r ≡ isTooLarge whole ⌝ }
+{
+    match whole {
+        Whole::Below(_) => false,
+        Whole::TooLarge => true,
+    }
+}
+
+// a + b, or the largest number where that is larger.
+fn plus_capped(a: usize, b: usize) -> usize
+    ensures { λ r. ⌜ r ≡ min (a + b) (2 ^ 64 - 1) ⌝ }
+{
+    if b <= usize::MAX - a {
+        a + b
+    } else {
+        usize::MAX
+    }
+}
+
+fn larger(a: usize, b: usize) -> usize
+    ensures { λ r. ⌜ r ≡ max a b ⌝ }
+{
+    if a < b { b } else { a }
+}
+
+fn layer_size(edges: Whole, per_edge: usize) -> Whole
+    ensures { λ r. ⌜ r ≡ layerOf edges «per_edge» ⌝ }
+{
+    match edges {
+        Whole::Below(count) => times(count, per_edge),
+        Whole::TooLarge => Whole::TooLarge,
+    }
+}
+
+fn uncounted(number: u32) -> Counted
+    ensures { λ r. ⌜ r ≡ uncount number ⌝ }
+{
+    Counted::Refused(Refusal { number, carried: 0 })
+}
+
+// The running total with one more layer: 5 where the layer does not fit, and then 6 where the total does not.
+fn add_layer(total: Counted, layer: Whole) -> Counted
+    ensures { λ r. ⌜ r ≡ addLayer total layer ⌝ }
+{
+    let Counted::Parameters(before) = total else {
+        return total;
+    };
+    let Whole::Below(size) = layer else {
+        return uncounted(5);
+    };
+    let Whole::Below(after) = plus(before, size) else {
+        return uncounted(6);
+    };
+    Counted::Parameters(after)
+}
+
+fn refused(number: u32, carried: usize) -> Checked
+    ensures { λ r. ⌜ r ≡ refuse number carried ⌝ }
+{
+    Checked::Refused(Refusal { number, carried })
+}
+
+fn intervals_sound(intervals: usize) -> bool
+    ensures { λ r. ⌜ r ≡ intervalsSound intervals ⌝ }
+{
+    (1 <= intervals) & (intervals <= MOST_INTERVALS)
+}
+
+fn ends_sound(grid: Grid) -> bool
+    ensures { λ r. ⌜ r ≡ endsSound grid ⌝ }
+{
+    floats::is_finite(grid.lo) & floats::is_finite(grid.hi) & !(grid.lo >= grid.hi)
+}
+
+// The source's tests on the width and on the outermost knots: each step must be finite and move its end.
+fn steps_sound(grid: Grid) -> bool
+    requires { ⌜ grid .intervals ≤ 250000 ⌝ }
+    ensures { λ r. ⌜ r ≡ stepsSound grid ⌝ }
+{
+    let w = spline::width(grid);
+    let a = grid.lo - 3.0 * w;
+    let b = grid.hi + 3.0 * w;
+    floats::is_finite(w)
+        & !(w <= 0.0)
+        & floats::is_finite(a)
+        & floats::is_finite(b)
+        & !(grid.lo + w <= grid.lo)
+        & !(grid.hi - w >= grid.hi)
+        & !(a >= grid.lo)
+        & !(b <= grid.hi)
+}
+
+// 4 for the given domain. An edge has more parameters than the grid has intervals, so that no configuration that passes 7
+// fails the first test here: it is for a state that no widths lead to.
+fn domain_sound(grid: Grid) -> bool
+    ensures { λ r. ⌜ r ≡ domainSound grid ⌝ }
+{
+    if grid.intervals > MOST_PARAMETERS {
+        return false;
+    }
+    ends_sound(grid) & steps_sound(grid)
+}
+
+// The last two checks: 7, and then 4 for the given domain.
+fn within_limits(sizes: Sizes, grid: Grid) -> Checked
+    ensures { λ r. ⌜ r ≡ sizedOf sizes grid ⌝ }
+{
+    let sound = domain_sound(grid);
+    if sizes.parameters > MOST_PARAMETERS {
+        return refused(7, sizes.parameters);
+    }
+    if sound {
+        Checked::Sound(sizes)
+    } else {
+        refused(4, 0)
+    }
+}
+
+// How many parameters an edge has: g + 5. It is 0 for a grid that is refused whatever its parameters are.
+pub fn per_edge(grid: Grid) -> usize
+    ensures { λ r. ⌜ r ≡ perEdgeOf (grid .intervals) ⌝ }
+{
+    if intervals_sound(grid.intervals) {
+        grid.intervals + 5
+    } else {
+        0
+    }
+}
+
+impl Shape {
+    pub fn new() -> Shape
+        ensures { λ r. ⌜ r ≡ emptyShape ⌝ }
+    {
+        Shape {
+            last: 0,
+            zero: false,
+            wide: false,
+            total: Counted::Parameters(0),
+            widest: 0,
+            nodes: 0,
+        }
+    }
+
+    // One more width, which makes a layer with the width before it.
+    pub fn take(self, width: usize, per_edge: usize) -> Shape
+        ensures { λ r. ⌜ r ≡ stepOf «per_edge» self width ⌝ }
+    {
+        let edges = times(self.last, width);
+        let layer = layer_size(edges, per_edge);
+        let total = self.total;
+        Shape {
+            last: width,
+            zero: self.zero | (width == 0),
+            wide: self.wide | is_too_large(edges),
+            total: add_layer(total, layer),
+            widest: larger(self.widest, width),
+            nodes: plus_capped(self.nodes, width),
+        }
+    }
+
+    // The answer once all `count` widths are taken. The given domain comes last, after all that is asked with [-1, 1].
+    pub fn verdict(self, count: usize, grid: Grid) -> Checked
+        ensures { λ r. ⌜ r ≡ verdictOf self count grid ⌝ }
+    {
+        let some_grid = intervals_sound(grid.intervals);
+        if (count < 2) | self.zero {
+            return refused(1, 0);
+        }
+        if self.wide {
+            return refused(2, 0);
+        }
+        if !some_grid {
+            return refused(3, 0);
+        }
+        if grid.intervals >= STUCK_INTERVALS {
+            return refused(4, 0);
+        }
+        let total = self.total;
+        match total {
+            Counted::Refused(refusal) => Checked::Refused(refusal),
+            Counted::Parameters(parameters) => {
+                let sizes = Sizes {
+                    parameters,
+                    widest: self.widest,
+                    nodes: self.nodes,
+                };
+                within_limits(sizes, grid)
+            }
+        }
+    }
+}
+
+pub fn check(widths: &[usize], grid: Grid) -> Checked
+    ensures { λ r. ⌜ r ≡ checkOf (now (widths .entry)) grid ⌝ }
+{
+    let each = per_edge(grid);
+    let mut shape = Shape::new();
+    let mut i = 0;
+    while i < widths.len() {
+        shape = shape.take(widths[i], each);
+        i += 1;
+    }
+    shape.verdict(widths.len(), grid)
+}
+
+pub fn parameter_count(widths: &[usize], grid: Grid) -> Counted
+    ensures { λ r. ⌜ r ≡ countOf (checkOf (now (widths .entry)) grid) ⌝ }
+{
+    match check(widths, grid) {
+        Checked::Sound(sizes) => Counted::Parameters(sizes.parameters),
+        Checked::Refused(refusal) => Counted::Refused(refusal),
+    }
+}

@@ -1,0 +1,44 @@
+-- `network::equip` meets its contract. Assumes nothing.
+use borrow.Author.Tests.{le-leb, lt-leb}
+use Rattle.config.specs.Config.{unless}
+use Rattle.network.specs.Admission.{equipped}
+use borrow.Author.Needs.{needs}
+use Rattle.network.proofs.admission.equip.Statement.{statement}
+use Rattle.network.proofs.admission.equip.Tie as tie
+
+admit-requires : tie.Need-admit-requires
+admit-requires c κs = search needs
+
+enum-known-checked : tie.Need-enum-known-checked
+enum-known-checked c = search needs
+
+enum-known-checked-2 : tie.Need-enum-known-checked-2
+enum-known-checked-2 c = search needs
+
+returns : tie.Need-returns
+unfolding equipped unless
+returns c = rw (← c .before .before .before .before .before .before .before .admit .ensures, c .before .before .before .before .before .checked2 .given .1, le-leb _ _ (c .before .before .if1 .taken), le-leb _ _ (c .if2 .taken))
+
+returns-2 : tie.Need-returns-2
+unfolding equipped unless
+returns-2 c = rw (← c .before .before .before .admit .ensures, c .before .checked .given .1)
+
+returns-3 : tie.Need-returns-3
+unfolding equipped unless
+returns-3 c = rw (← c .before .before .before .before .before .before .before .admit .ensures, c .before .before .before .before .before .checked2 .given .1, le-leb _ _ (c .before .before .if1 .taken), lt-leb _ _ (c .if2 .left))
+
+returns-4 : tie.Need-returns-4
+unfolding equipped unless
+returns-4 c = rw (← c .before .before .before .before .before .admit .ensures, c .before .before .before .checked2 .given .1, lt-leb _ _ (c .if1 .left))
+
+pub equip-spec : {M : Type 1} → statement M
+equip-spec =
+    tie.close
+    (tie.spec
+    admit-requires
+    enum-known-checked
+    enum-known-checked-2
+    returns
+    returns-2
+    returns-3
+    returns-4)

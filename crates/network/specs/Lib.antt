@@ -1,0 +1,5 @@
+pub mod Admission
+pub mod Predict
+pub mod Loss
+pub mod Forward
+pub mod Steps

@@ -1,0 +1,36 @@
+-- What the steps inside the calls promise and ask: no part of the calls' meaning. Definitions only.
+use Prim.Native.Nat.{ℕ, _-_, _*_, _≤_}
+use mathlib.Core.Path.{_≡_}
+use mathlib.Core.List.{List}
+use lib.ListN.{length, drop}
+use lib.Ieee.{Float}
+use Rattle.spline.specs.declared.Grid.{Grid}
+use Rattle.layers.specs.Basis.{Basis}
+use Rattle.rows.specs.Batch.{rowsIn}
+use Rattle.rows.specs.Turns.{AtMost, Fits}
+use Rattle.config.specs.declared.Outcome.{Outcome}
+use Rattle.network.specs.Predict.{inWidth, outWidth, rowsOutcome, rowsWritten, predictOutcome, predictWritten}
+
+-- a work slice is as it was past the largest width
+abbrev pub Past : List ℕ → List Float → List Float → Type 0
+Past ws s s′ = (m : ℕ) → AtMost ws m → drop m s′ ≡ drop m s
+
+-- the rows of a batch, with room for their outputs
+pub record Batched (g : Grid) (ps : List Float) (ws : List ℕ) (xs a b ys : List Float) (rows : ℕ) : Type 0 where
+  pub fits : Fits g ps ws a b
+  pub count : rows ≡ rowsIn (length xs) (inWidth ws)
+  pub room : rows * outWidth ws ≤ length ys
+
+pub record RowsDone (B : Basis) (ps : List Float) (ws : List ℕ) (xs : List Float) (rows : ℕ) (a b ys : List Float) (r : Outcome)
+    (a′ b′ ys′ : List Float) : Type 0 where
+  pub answer : r ≡ rowsOutcome B ps ws xs rows
+  pub outputs : ys′ ≡ rowsWritten B ps ws xs rows ys
+  pub first : Past ws a a′
+  pub second : Past ws b b′
+
+-- 10, 11 and the rows
+pub record BatchDone (B : Basis) (ps : List Float) (ws : List ℕ) (xs a b ys : List Float) (r : Outcome) (a′ b′ ys′ : List Float) : Type 0 where
+  pub answer : r ≡ predictOutcome B ps ws xs (length ys)
+  pub outputs : ys′ ≡ predictWritten B ps ws xs ys
+  pub first : Past ws a a′
+  pub second : Past ws b b′

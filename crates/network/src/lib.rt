@@ -1,0 +1,9 @@
+// Public crate: calls on a model. Each takes all arguments and answers, or refuses by document 01's number; one record
+// says the answer and the final contents of everything that was lent.
+mod admission;
+mod loss;
+mod predict;
+
+pub use loss::Loss;
+pub use loss::Sum;
+pub use predict::predict_batch;

@@ -1,0 +1,4 @@
+pub mod Patterns
+pub mod Cuts
+pub mod Digits
+pub mod Words

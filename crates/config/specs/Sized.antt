@@ -1,4 +1,4 @@
--- What an accepted configuration has. Callers of inner crates, which ask for it, show it by `sized` of proofs/Sized.antt.
+-- What an accepted configuration has: inner crates ask for it, and `sized` of proofs/Sized.antt shows it. Definitions only.
 use Prim.Native.Nat.{ℕ, _+_, _-_, _≤_, _<_}
 use mathlib.Core.Path.{_≡_}
 use mathlib.Core.List.{List}

@@ -279,19 +279,19 @@ impl Shape {
     }
 }
 
+// Accepted, with the sizes that all other calls go by, or the first refusal.
 pub fn check(widths: &[usize], grid: Grid) -> Checked
     ensures { λ r. ⌜ r ≡ checkOf (now (widths .entry)) grid ⌝ }
 {
     let each = per_edge(grid);
     let mut shape = Shape::new();
-    let mut i = 0;
-    while i < widths.len() {
+    for i in 0..widths.len() {
         shape = shape.take(widths[i], each);
-        i += 1;
     }
     shape.verdict(widths.len(), grid)
 }
 
+// P, refused as `check` is.
 pub fn parameter_count(widths: &[usize], grid: Grid) -> Counted
     ensures { λ r. ⌜ r ≡ countOf (checkOf (now (widths .entry)) grid) ⌝ }
 {

@@ -62,7 +62,8 @@ tab-get {A} f (suc n) k h r x =
 -- a loop that fills has not touched the next place, nor what lies after it
 pub tab-rest : {A : Type 0} (f : ℕ → A) (n : ℕ) (d e : List A) (x : A) → e ≡ tabulate f n ++ drop n d → getD e n x ≡ getD d n x
 tab-rest f n d e x p =
-    let h : getD (tabulate f n ++ drop n d) (length (tabulate f n) + 0) x ≡ getD (drop n d) 0 x = getD-append-add (tabulate f n) (drop n d) 0 x in
+    let h : getD (tabulate f n ++ drop n d) (length (tabulate f n) + 0) x ≡ getD (drop n d) 0 x = getD-append-add (tabulate f n)
+    (drop n d) 0 x in
     rw p ((rw (tab-length f n, add-zero n) at h) ∙ getD-drop n d 0 x ∙ rw (add-zero n))
 
 pub tab-drop : {A : Type 0} (f : ℕ → A) (n : ℕ) (d e : List A) → e ≡ tabulate f n ++ drop n d → drop n e ≡ drop n d

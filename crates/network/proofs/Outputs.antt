@@ -21,7 +21,8 @@ same-test a b c d f g = go (eqb a b) refl
     go true e = e ∙ sym (eq-eqb c d (f (eqb-true a b e)))
     go false e = e ∙ sym (ne-eqb c d (λ (q : c ≡ d). eqb-false a b e (g q)))
 
-pub fit-whole : (w v inputs outputs r : ℕ) → 0 < v → outputs % v ≡ 0 → r ≡ rowsIn inputs w → eqb (outputs / v) r ≡ outputsFit w v inputs outputs
+pub fit-whole : (w v inputs outputs r : ℕ) → 0 < v → outputs % v ≡ 0 → r ≡ rowsIn inputs w
+    → eqb (outputs / v) r ≡ outputsFit w v inputs outputs
 unfolding outputsFit
 fit-whole w v inputs outputs r pos e q =
     let back : outputs / v * v ≡ outputs = exact (outputs / v * v) (outputs % v) outputs e (div-add-mod' outputs v) in
@@ -35,10 +36,12 @@ fit-whole w v inputs outputs r pos e q =
 pub fit-not : (w v inputs outputs : ℕ) → 0 < v → (outputs % v ≡ 0 → ⊥) → false ≡ outputsFit w v inputs outputs
 unfolding outputsFit
 fit-not w v inputs outputs pos e =
-    sym (ne-eqb outputs (rowsIn inputs w * v) (λ (p : outputs ≡ rowsIn inputs w * v). e (ap (λ (k : ℕ). k % v) p ∙ mul-mod-left (rowsIn inputs w) v)))
+    sym (ne-eqb outputs (rowsIn inputs w * v)
+    (λ (p : outputs ≡ rowsIn inputs w * v). e (ap (λ (k : ℕ). k % v) p ∙ mul-mod-left (rowsIn inputs w) v)))
 
 -- ---- the front of a slice copied to the front of another
 pub copied : (v : ℕ) (from to to' : List Float) → v ≤ length from
     → to' ≡ take (v - 0) (drop 0 from) ++ drop (length (take (v - 0) (drop 0 from))) to → to' ≡ take v from ++ drop v to
 copied v from to to' h p =
-    p ∙ ap (λ (n : ℕ). take (v - 0) (drop 0 from) ++ drop n to) (front-length v from h) ∙ ap (λ (l : List Float). l ++ drop v to) (front v from)
+    p ∙ ap (λ (n : ℕ). take (v - 0) (drop 0 from) ++ drop n to) (front-length v from h)
+    ∙ ap (λ (l : List Float). l ++ drop v to) (front v from)

@@ -52,7 +52,8 @@ unfoldable pub lossTo : Basis → List Float → List ℕ → List Float → Lis
 lossTo B ps ws xs ts zero = Of zero32
 lossTo B ps ws xs ts (suc r) =
     onSum (lossTo B ps ws xs ts r)
-    (λ s. sumIf (nodesFinite B ps ws (rowAt xs (inWidth ws) r)) (errorsTo s (outputsAt B ps ws xs r) (rowAt ts (outWidth ws) r) (outWidth ws)) (Stopped 20))
+    (λ s. sumIf (nodesFinite B ps ws (rowAt xs (inWidth ws) r))
+    (errorsTo s (outputsAt B ps ws xs r) (rowAt ts (outWidth ws) r) (outWidth ws)) (Stopped 20))
 
 -- the mean, or the refusal
 abbrev pub refuseLoss : ℕ → Loss

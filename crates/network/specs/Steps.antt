@@ -6,9 +6,12 @@ use lib.ListN.{length, drop}
 use lib.Ieee.{Float}
 use Rattle.spline.specs.declared.Grid.{Grid}
 use Rattle.layers.specs.Basis.{Basis}
-use Rattle.rows.specs.Batch.{rowsIn}
+use Rattle.rows.specs.Batch.{rowsIn, SoundBatch}
 use Rattle.rows.specs.Turns.{AtMost, Fits}
 use Rattle.config.specs.declared.Outcome.{Outcome}
+use Rattle.network.specs.declared.loss.Sum.{Sum}
+use Rattle.network.specs.declared.loss.Loss.{Loss}
+use Rattle.network.specs.Loss.{lossTo, lossOf}
 use Rattle.network.specs.Predict.{inWidth, outWidth, rowsOutcome, rowsWritten, predictOutcome, predictWritten}
 
 -- a work slice is as it was past the largest width
@@ -29,8 +32,26 @@ pub record RowsDone (B : Basis) (ps : List Float) (ws : List ℕ) (xs : List Flo
   pub second : Past ws b b′
 
 -- 10, 11 and the rows
-pub record BatchDone (B : Basis) (ps : List Float) (ws : List ℕ) (xs a b ys : List Float) (r : Outcome) (a′ b′ ys′ : List Float) : Type 0 where
+pub record BatchDone (B : Basis) (ps : List Float) (ws : List ℕ) (xs a b ys : List Float) (r : Outcome)
+(a′ b′ ys′ : List Float) : Type 0 where
   pub answer : r ≡ predictOutcome B ps ws xs (length ys)
   pub outputs : ys′ ≡ predictWritten B ps ws xs ys
+  pub first : Past ws a a′
+  pub second : Past ws b b′
+
+-- ---- loss: a sound batch, the rows' sum, and all past check 9
+pub record Measured (g : Grid) (ps : List Float) (ws : List ℕ) (xs ts a b : List Float) (rows : ℕ) : Type 0 where
+  pub fits : Fits g ps ws a b
+  pub batch : SoundBatch (inWidth ws) (outWidth ws) xs ts
+  pub count : rows ≡ rowsIn (length xs) (inWidth ws)
+
+pub record RowsSummed (B : Basis) (ps : List Float) (ws : List ℕ) (xs ts : List Float) (rows : ℕ) (a b : List Float) (r : Sum)
+(a′ b′ : List Float) : Type 0 where
+  pub answer : r ≡ lossTo B ps ws xs ts rows
+  pub first : Past ws a a′
+  pub second : Past ws b b′
+
+pub record LossDone (B : Basis) (ps : List Float) (ws : List ℕ) (xs ts a b : List Float) (r : Loss) (a′ b′ : List Float) : Type 0 where
+  pub answer : r ≡ lossOf B ps ws xs ts
   pub first : Past ws a a′
   pub second : Past ws b b′

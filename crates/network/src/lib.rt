@@ -6,4 +6,5 @@ mod predict;
 
 pub use loss::Loss;
 pub use loss::Sum;
+pub use loss::mse_loss;
 pub use predict::predict_batch;

@@ -19,6 +19,7 @@ use Rattle.layers.specs.Widths.{widthAt, layerSize, paramsTo}
 use Rattle.layers.specs.Layer.{layerOf}
 use Rattle.layers.proofs.Widths.{params-none, params-more}
 use Rattle.rows.specs.Pass.{nodesOf, finiteAfter, nodesFinite, rowFault, rowRefusal}
+use Rattle.rows.proofs.Batches.{wide-row}
 use Rattle.rows.specs.Turns.{holder, AtMost, Turned, Layered, Ran}
 
 -- ---- one layer at the front of a slice
@@ -46,7 +47,8 @@ past L n m to to' e h p =
     let back : (l : List Float) → drop (m - n) (drop n l) ≡ drop m l = λ l. drop-drop (m - n) n l ∙ ap (λ (k : ℕ). drop k l) s in
     sym (back to') ∙ ap (λ (l : List Float). drop (m - n) (drop n l)) p ∙ ap (drop (m - n)) (drop-at L (drop n to) n e) ∙ back to
 
-pub same-size : (L : List Float) (n : ℕ) (to to' : List Float) → length L ≡ n → n ≤ length to → to' ≡ L ++ drop n to → length to' ≡ length to
+pub same-size : (L : List Float) (n : ℕ) (to to' : List Float) → length L ≡ n → n ≤ length to → to' ≡ L ++ drop n to
+    → length to' ≡ length to
 same-size L n to to' e h p = ap length p ∙ rw (length-append, length-drop) (omega arith)
 
 -- ---- both slices keep their lengths and what lies past the largest width
@@ -162,12 +164,7 @@ module _ (B : Basis) (ps : List Float) (ws : List ℕ) (xs a₀ b₀ : List Floa
 -- ---- a whole row
 -- a row with no fault is as wide as it must be
 pub full : (w : ℕ) (xs : List Float) → rowFault w 14 15 xs ≡ 0 → length xs ≡ w
-unfolding rowFault
-full w xs e = go (eqb (length xs) w) refl e
-  where
-    go : (b : Bool) → eqb (length xs) w ≡ b → _≡_ {A = ℕ} (cond b (cond (allFinite xs) 0 15) 14) 0 → length xs ≡ w
-    go true p q = eqb-true (length xs) w p
-    go false p q = absurd (omega (arith, q))
+full w xs e = wide-row w 13 15 xs e
 
 pub at-fault : (B : Basis) (ps : List Float) (ws : List ℕ) (xs a b : List Float) (r : ℕ) → r ≡ rowFault (widthAt ws 0) 14 15 xs
     → (r ≡ 0 → ⊥) → Ran B ps ws xs a b a b r

@@ -10,11 +10,10 @@ use Rattle.config.proofs.check.Statement.{statement}
 use Rattle.config.proofs.check.Tie as tie
 
 abbrev Inv-loop : tie.InvT-loop
-Inv-loop widths grid each shape₀ i₀ shape i =
-    (i ≤ length widths) × (shape ≡ shapeTo each widths i)
+Inv-loop widths grid each shape₀ i₀ i-end shape i = (i ≤ length widths) × (shape ≡ shapeTo each widths i)
 
 abbrev μ-loop : tie.MeasureT-loop
-μ-loop widths grid each shape₀ i₀ shape i = length widths - i
+μ-loop widths grid each shape₀ i₀ i-end shape i = length widths - i
 
 per-edge-requires : tie.Need-per-edge-requires Inv-loop μ-loop
 per-edge-requires c κs = search needs

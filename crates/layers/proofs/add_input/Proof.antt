@@ -22,7 +22,8 @@ inside {g} {ps} {xs} {ys} {n} j o h r = within o n j (length xs) (g .intervals +
 
 abbrev Inv-loop : tie.InvT-loop
 Inv-loop grid params inputs j outputs₀ n stride row first x silu o₀ outputs o =
-    (o ≤ n) × (length outputs ≡ length outputs₀) × (outputs ≡ tabulate (oneMore (basisOf grid) params inputs j outputs₀) o ++ drop o outputs₀)
+    (o ≤ n) × (length outputs ≡ length outputs₀) ×
+    (outputs ≡ tabulate (oneMore (basisOf grid) params inputs j outputs₀) o ++ drop o outputs₀)
 
 abbrev μ-loop : tie.MeasureT-loop
 μ-loop grid params inputs j outputs₀ n stride row first x silu o₀ outputs o = n - o
@@ -31,10 +32,12 @@ add-stride : tie.Need-add-stride Inv-loop μ-loop
 add-stride c = omega arith
 
 mul-row : tie.Need-mul-row Inv-loop μ-loop
-mul-row c = omega (arith, row-room _ _ _ (c .before .before .before .before .pre .0 .some) (c .before .before .before .before .pre .0 .params))
+mul-row c =
+    omega (arith, row-room _ _ _ (c .before .before .before .before .pre .0 .some) (c .before .before .before .before .pre .0 .params))
 
 mul-first : tie.Need-mul-first Inv-loop μ-loop
-mul-first c = let p = c .before .before .before .before .pre in omega (arith, room _ _ _ _ (p .1) (row-room _ _ _ (p .0 .some) (p .0 .params)))
+mul-first c =
+    let p = c .before .before .before .before .pre in omega (arith, room _ _ _ _ (p .1) (row-room _ _ _ (p .0 .some) (p .0 .params)))
 
 mul-x : tie.Need-mul-x Inv-loop μ-loop
 mul-x c = search needs
@@ -61,19 +64,31 @@ slice-read-outputs : tie.Need-slice-read-outputs Inv-loop μ-loop
 slice-read-outputs c = omega arith
 
 mul-edge : tie.Need-mul-edge Inv-loop μ-loop
-mul-edge c = omega (arith, inside _ _ (c .before .loop-test .taken) (c .before .before .before .before .before .before .before .before .before .pre))
+mul-edge c =
+    omega (arith, inside _ _ (c .before .loop-test .taken) (c .before .before .before .before .before .before .before .before .before .pre))
 
 sub-edge : tie.Need-sub-edge Inv-loop μ-loop
-sub-edge c = omega (arith, inside _ _ (c .before .loop-test .taken) (c .before .before .before .before .before .before .before .before .before .pre))
+sub-edge c =
+    omega (arith, inside _ _ (c .before .loop-test .taken) (c .before .before .before .before .before .before .before .before .before .pre))
 
 part-edge-start : tie.Need-part-edge-start Inv-loop μ-loop
-part-edge-start c = omega (arith, inside _ _ (c .before .loop-test .taken) (c .before .before .before .before .before .before .before .before .before .pre))
+part-edge-start c =
+    omega (arith, inside _ _ (c .before .loop-test .taken) (c .before .before .before .before .before .before .before .before .before .pre))
 
 part-edge-end : tie.Need-part-edge-end Inv-loop μ-loop
-part-edge-end c = omega (arith, inside _ _ (c .before .loop-test .taken) (c .before .before .before .before .before .before .before .before .before .pre))
+part-edge-end c =
+    omega (arith, inside _ _ (c .before .loop-test .taken) (c .before .before .before .before .before .before .before .before .before .pre))
 
 edge-requires : tie.Need-edge-requires Inv-loop μ-loop
-edge-requires c κs = (c .before .before .before .before .before .before .before .before .before .before .pre .0 .grid, rw rest-length (omega (arith, inside _ _ (c .before .before .loop-test .taken) (c .before .before .before .before .before .before .before .before .before .before .pre))))
+edge-requires c κs = (
+  c .before .before .before .before .before .before .before .before .before .before .pre .0 .grid,
+  rw rest-length
+      (omega (
+        arith,
+        inside _ _ (c .before .before .loop-test .taken)
+            (c .before .before .before .before .before .before .before .before .before .before .pre),
+      )),
+)
 
 mul-outputs-2 : tie.Need-mul-outputs-2 Inv-loop μ-loop
 mul-outputs-2 c = omega arith
@@ -93,7 +108,8 @@ loop-again c =
     let filled = c .before .before .before .before .loop .inv .2 in (
       omega arith,
       simp length-set (omega arith),
-      tab-more _ _ _ _ _ filled (rw (tab-rest _ _ _ _ _ filled, c .edge .ensures, c .before .before .before .before .before .silu .ensures, cut)) (omega arith),
+      tab-more _ _ _ _ _ filled
+          (rw (tab-rest _ _ _ _ _ filled, c .edge .ensures, c .before .before .before .before .before .silu .ensures, cut)) (omega arith),
     )
 
 same-length : tie.Need-same-length Inv-loop μ-loop
@@ -101,7 +117,9 @@ same-length c = c .before .loop .inv .1
 
 returns : tie.Need-returns Inv-loop μ-loop
 unfolding addedOf
-returns c = let e : c .before .loop .o ≡ c .before .before .before .before .before .before .before .before .args .n = omega arith in rw (← e) (c .before .loop .inv .2)
+returns c =
+    let e : c .before .loop .o ≡ c .before .before .before .before .before .before .before .before .args .n = omega arith in rw (← e)
+    (c .before .loop .inv .2)
 
 pub add-input-spec : {M : Type 1} → statement M
 add-input-spec =

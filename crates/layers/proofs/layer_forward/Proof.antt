@@ -20,7 +20,8 @@ moved r e = record { grid = r .grid; some = r .some; outputs = omega (arith, r .
 
 abbrev Inv-loop : tie.InvT-loop
 Inv-loop grid params inputs outputs₀ n j₀ j-end outputs j =
-    (j ≤ length inputs) × (length outputs ≡ length outputs₀) × (outputs ≡ tabulate (soFar (basisOf grid) params inputs j) n ++ drop n outputs₀)
+    (j ≤ length inputs) × (length outputs ≡ length outputs₀) ×
+    (outputs ≡ tabulate (soFar (basisOf grid) params inputs j) n ++ drop n outputs₀)
 
 abbrev μ-loop : tie.MeasureT-loop
 μ-loop grid params inputs outputs₀ n j₀ j-end outputs j = length inputs - j
@@ -34,7 +35,13 @@ loop-holds c =
     (omega arith, refl, begun (basisOf (a .grid)) (a .params .now) (a .inputs .now) _ _ _ (c .before .before .clear .ensures))
 
 add-input-requires : tie.Need-add-input-requires Inv-loop μ-loop
-add-input-requires c κs = (moved (c .before .before .before .before .before .before .before .before .before .before .pre) (c .before .before .loop .inv .1 ∙ tab-kept _ _ _ _ (c .before .before .before .before .before .before .before .before .before .before .pre .outputs) (c .before .before .before .before .before .clear .ensures)), c .before .loop-test .taken)
+add-input-requires c κs = (
+  moved (c .before .before .before .before .before .before .before .before .before .before .pre)
+      (c .before .before .loop .inv .1
+      ∙ tab-kept _ _ _ _ (c .before .before .before .before .before .before .before .before .before .before .pre .outputs)
+      (c .before .before .before .before .before .clear .ensures)),
+  c .before .loop-test .taken,
+)
 
 add-j : tie.Need-add-j Inv-loop μ-loop
 add-j c = omega arith
@@ -48,17 +55,28 @@ loop-again c =
     let a = s .args in
     let cleared = tab-kept _ _ _ _ (s .pre .outputs) (c .before .before .before .before .before .before .before .before .clear .ensures) in
     let B = basisOf (a .grid) in
-    let kept = added-length B (a .params .now) (a .inputs .now) _ _ _ _ (omega (arith, s .pre .outputs, c .before .before .before .before .before .loop .inv .1, cleared)) (c .before .before .add-input .ensures) in
-    (omega arith, kept ∙ c .before .before .before .before .before .loop .inv .1, one-more B (a .params .now) (a .inputs .now) _ _ _ _ _ (c .before .before .before .before .before .loop .inv .2) (c .before .before .add-input .ensures))
+    let kept = added-length B (a .params .now) (a .inputs .now) _ _ _ _
+    (omega (arith, s .pre .outputs, c .before .before .before .before .before .loop .inv .1, cleared))
+    (c .before .before .add-input .ensures) in (
+      omega arith,
+      kept ∙ c .before .before .before .before .before .loop .inv .1,
+      one-more B (a .params .now)
+          (a .inputs .now) _ _ _ _ _ (c .before .before .before .before .before .loop .inv .2) (c .before .before .add-input .ensures),
+    )
 
 same-length : tie.Need-same-length Inv-loop μ-loop
-same-length c = c .before .loop .inv .1 ∙ tab-kept _ _ _ _ (c .before .before .before .before .before .before .before .before .before .pre .outputs) (c .before .before .before .before .clear .ensures)
+same-length c =
+    c .before .loop .inv .1
+    ∙ tab-kept _ _ _ _ (c .before .before .before .before .before .before .before .before .before .pre .outputs)
+    (c .before .before .before .before .clear .ensures)
 
 returns : tie.Need-returns Inv-loop μ-loop
 returns c =
-    let at-end : c .before .loop .j ≡ length (c .before .before .before .before .before .before .before .before .before .args .inputs .now) = omega arith in
+    let at-end : c .before .loop .j ≡ length
+    (c .before .before .before .before .before .before .before .before .before .args .inputs .now) = omega arith in
     let a = c .before .before .before .before .before .before .before .before .before .args in
-    all-in (basisOf (a .grid)) (a .params .now) (a .inputs .now) _ _ _ _ _ at-end (c .before .before .before .before .clear .ensures) (c .before .loop .inv .2)
+    all-in (basisOf (a .grid)) (a .params .now) (a .inputs .now) _ _ _ _ _ at-end (c .before .before .before .before .clear .ensures)
+    (c .before .loop .inv .2)
 
 pub layer-forward-spec : {M : Type 1} → statement M
 layer-forward-spec =

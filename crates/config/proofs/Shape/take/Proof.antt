@@ -3,14 +3,6 @@ use Rattle.config.specs.Fold.{stepOf}
 use borrow.Author.Needs.{needs}
 use Rattle.config.proofs.Shape.take.Statement.{statement}
 use Rattle.config.proofs.Shape.take.Tie as tie
-use Rattle.config.proofs.Shape.take.Reads as reads
-use Rattle.config.proofs.Shape.take.Lts as lts
-use Rattle.config.proofs.add_layer.Reads as add-layer-reads
-use Rattle.config.proofs.is_too_large.Reads as is-too-large-reads
-use Rattle.config.proofs.larger.Reads as larger-reads
-use Rattle.config.proofs.layer_size.Reads as layer-size-reads
-use Rattle.config.proofs.plus_capped.Reads as plus-capped-reads
-use Rattle.config.proofs.times.Reads as times-reads
 
 times-requires : tie.Need-times-requires
 times-requires c κs = search needs

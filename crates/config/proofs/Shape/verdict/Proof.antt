@@ -83,12 +83,10 @@ past-four c =
     )
 
 returns-5 : tie.Need-returns-5
-returns-5 c =
-    rw (past-four (c .before .before .before), c .before .total .given .1)
+returns-5 c = rw (past-four (c .before .before .before), c .before .total .given .1)
 
 returns-6 : tie.Need-returns-6
-returns-6 c =
-    rw (c .within-limits .ensures, past-four (c .before .before .before .before), c .before .before .total2 .given .1)
+returns-6 c = rw (c .within-limits .ensures, past-four (c .before .before .before .before), c .before .before .total2 .given .1)
 
 pub verdict-spec : {M : Type 1} → statement M
 verdict-spec =

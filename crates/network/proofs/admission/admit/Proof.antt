@@ -21,11 +21,23 @@ returns c = rw (← c .before .before .before .check .ensures, c .before .checke
 
 returns-2 : tie.Need-returns-2
 unfolding admitted unless
-returns-2 c = rw (← c .before .before .before .before .before .check .ensures, c .before .before .before .checked2 .given .1, eq-eqb _ _ (c .if1 .taken))
+returns-2 c =
+    rw (
+      ← c .before .before .before .before .before .check .ensures,
+      c .before .before .before .checked2 .given .1,
+      eq-eqb _ _
+          (c .if1 .taken),
+    )
 
 returns-3 : tie.Need-returns-3
 unfolding admitted unless
-returns-3 c = rw (← c .before .before .before .before .before .check .ensures, c .before .before .before .checked2 .given .1, ne-eqb _ _ (c .if1 .left))
+returns-3 c =
+    rw (
+      ← c .before .before .before .before .before .check .ensures,
+      c .before .before .before .checked2 .given .1,
+      ne-eqb _ _
+          (c .if1 .left),
+    )
 
 pub admit-spec : {M : Type 1} → statement M
 admit-spec =

@@ -38,13 +38,17 @@ same-length : tie.Need-same-length
 same-length c = search needs
 
 returns : tie.Need-returns
-returns c = let e = eq-eqb _ _ (c .before .before .before .before .before .if1 .taken) in rw e (copied _ _ _ _ (c .before .before .before .before .before .before .before .before .before .pre .1) (c .before .before .copy .ensures))
+returns c =
+    let e = eq-eqb _ _ (c .before .before .before .before .before .if1 .taken) in rw e
+    (copied _ _ _ _ (c .before .before .before .before .before .before .before .before .before .pre .1) (c .before .before .copy .ensures))
 
 same-length-2 : tie.Need-same-length-2
 same-length-2 c = search needs
 
 returns-2 : tie.Need-returns-2
-returns-2 c = let e = ne-eqb _ _ (c .before .before .before .before .before .if1 .left) in rw e (copied _ _ _ _ (c .before .before .before .before .before .before .before .before .before .pre .0) (c .before .before .copy2 .ensures))
+returns-2 c =
+    let e = ne-eqb _ _ (c .before .before .before .before .before .if1 .left) in rw e
+    (copied _ _ _ _ (c .before .before .before .before .before .before .before .before .before .pre .0) (c .before .before .copy2 .ensures))
 
 pub copy-outputs-spec : {M : Type 1} → statement M
 copy-outputs-spec =

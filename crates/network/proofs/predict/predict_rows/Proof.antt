@@ -1,90 +1,175 @@
+-- `network::predict_rows` meets its contract: before row r the outputs of r rows are written. Assumes nothing.
+use mathlib.Core.Path.{_≡_, refl, sym, ap, _∙_}
+use Prim.Native.Nat.{ℕ, _+_, _-_, _*_, _≤_, _<_}
+use native.Mathlib.Nat.{le-of-lt, le-trans}
+use native.Mathlib.Omega.{arith}
+use lib.ListN.{length, take, drop}
+use Rattle.floats.proofs.Loops.{room, rest-length}
+use Rattle.layers.specs.Basis.{basisOf}
+use Rattle.rows.proofs.Batches.{row-begins}
+use Rattle.network.specs.Predict.{inWidth, outWidth}
+use Rattle.network.proofs.Rows.{fits-moved, Going, before-first, one-row, row-refused, all-rows}
 use Rattle.network.proofs.predict.predict_rows.Statement.{statement}
 use Rattle.network.proofs.predict.predict_rows.Tie as tie
-use Rattle.network.proofs.predict.predict_rows.Reads as reads
-use Rattle.network.proofs.predict.predict_rows.Lts as lts
-use Rattle.network.proofs.predict.copy_outputs.Reads as copy-outputs-reads
-use Rattle.rows.proofs.row.Reads as row-reads
-use Rattle.rows.proofs.run_row.Reads as run-row-reads
+
+last : (n : ℕ) → 2 ≤ n → n - 1 < n
+last n h = omega arith
 
 abbrev Inv-loop : tie.InvT-loop
 Inv-loop grid widths model inputs rows first₀ second₀ outputs₀ layers w v r₀ first second outputs r =
-    ?
+    (r ≤ rows) × Going (basisOf grid) model widths inputs first₀ second₀ outputs₀ r first second outputs
 
 abbrev μ-loop : tie.MeasureT-loop
-μ-loop grid widths model inputs rows first₀ second₀ outputs₀ layers w v r₀ first second outputs r =
-    ?
+μ-loop grid widths model inputs rows first₀ second₀ outputs₀ layers w v r₀ first second outputs r = rows - r
 
 sub-layers : tie.Need-sub-layers Inv-loop μ-loop
-sub-layers c = ?
+sub-layers c = omega (arith, c .before .before .before .before .before .before .pre .fits .some)
 
 shared-slice-read-w : tie.Need-shared-slice-read-w Inv-loop μ-loop
-shared-slice-read-w c = ?
+shared-slice-read-w c = omega (arith, c .before .before .before .before .before .before .before .pre .fits .some)
 
 mul-v : tie.Need-mul-v Inv-loop μ-loop
-mul-v c = ?
+mul-v c = omega (arith, c .before .before .before .before .before .before .before .pre .fits .some)
 
 shared-slice-read-v : tie.Need-shared-slice-read-v Inv-loop μ-loop
-shared-slice-read-v c = ?
+shared-slice-read-v c = omega (arith, c .before .before .before .before .before .before .before .before .pre .fits .some)
 
 loop-holds : tie.Need-loop-holds Inv-loop μ-loop
-loop-holds c = ?
+loop-holds c = (omega arith, before-first _ _ _ _ _ _ _)
 
 row-requires : tie.Need-row-requires Inv-loop μ-loop
-row-requires c κs = ?
+row-requires c κs =
+    let p = c .before .before .before .before .before .before .before .before .before .before .pre in
+    le-of-lt (row-begins _ _ _ (p .fits .positive 0 (omega (arith, p .fits .some))) (rw (p .count) at (c .loop-test .taken)))
 
 run-row-requires : tie.Need-run-row-requires Inv-loop μ-loop
-run-row-requires c κs = ?
+run-row-requires c κs =
+    let g = c .before .before .before .before .loop .inv .1 in fits-moved _ _ _ _ _ _ _
+    (c .before .before .before .before .before .before .before .before .before .before .before .before .before .pre .fits) (g .sizeA)
+    (g .sizeB)
 
 same-length : tie.Need-same-length Inv-loop μ-loop
-same-length c = ?
+same-length c =
+    c .before .before .before .before .before .run-row .kept .1 .1 .1 .1 .0
+    ∙ c .before .before .before .before .before .before .before .before .before .before .loop .inv .1 .sizeA
 
 same-length-2 : tie.Need-same-length-2 Inv-loop μ-loop
-same-length-2 c = ?
+same-length-2 c =
+    c .before .before .before .before .before .run-row .kept .1 .1 .1 .1 .1 .0
+    ∙ c .before .before .before .before .before .before .before .before .before .before .loop .inv .1 .sizeB
 
 same-length-3 : tie.Need-same-length-3 Inv-loop μ-loop
-same-length-3 c = ?
+same-length-3 c = c .before .before .before .before .before .before .before .before .before .before .loop .inv .1 .sizeY
 
 returns : tie.Need-returns Inv-loop μ-loop
-returns c = ?
+returns c =
+    row-refused _ _ _ _ _ _ _ _ _ _ _ _ _ _ _
+    (c .before .before .before .before .before .before .before .before .before .loop-test .taken)
+    (c .before .before .before .before .before .before .before .before .before .before .loop .inv .1)
+    (rw (c .before .before .before .before .before .before .before .before .row .ensures) at
+    (c .before .before .before .before .before .run-row .ensures)) (c .if1 .taken)
 
 mul-at : tie.Need-mul-at Inv-loop μ-loop
-mul-at c = ?
+mul-at c =
+    omega (
+      arith,
+      room _ _ _ _ (c .before .before .before .before .before .before .before .before .before .loop-test .taken)
+          (c .before .before .before .before .before .before .before .before .before .before .before .before .before .before .before .before .before .before .before .pre .room),
+    )
 
 mul-copy-outputs : tie.Need-mul-copy-outputs Inv-loop μ-loop
-mul-copy-outputs c = ?
+mul-copy-outputs c =
+    omega (
+      arith,
+      room _ _ _ _
+          (c .before .before .before .before .before .before .before .before .before .before .before .loop-test .taken)
+          (c .before .before .before .before .before .before .before .before .before .before .before .before .before .before .before .before .before .before .before .before .before .pre .room),
+      c .before .before .before .before .before .before .before .before .before .before .before .before .loop .inv .1 .sizeY,
+    )
 
 sub-copy-outputs : tie.Need-sub-copy-outputs Inv-loop μ-loop
-sub-copy-outputs c = ?
+sub-copy-outputs c =
+    omega (
+      arith,
+      room _ _ _ _
+          (c .before .before .before .before .before .before .before .before .before .before .before .loop-test .taken)
+          (c .before .before .before .before .before .before .before .before .before .before .before .before .before .before .before .before .before .before .before .before .before .pre .room),
+      c .before .before .before .before .before .before .before .before .before .before .before .before .loop .inv .1 .sizeY,
+    )
 
 part-copy-outputs-start : tie.Need-part-copy-outputs-start Inv-loop μ-loop
-part-copy-outputs-start c = ?
+part-copy-outputs-start c =
+    omega (
+      arith,
+      room _ _ _ _
+          (c .before .before .before .before .before .before .before .before .before .before .before .loop-test .taken)
+          (c .before .before .before .before .before .before .before .before .before .before .before .before .before .before .before .before .before .before .before .before .before .pre .room),
+      c .before .before .before .before .before .before .before .before .before .before .before .before .loop .inv .1 .sizeY,
+    )
 
 part-copy-outputs-end : tie.Need-part-copy-outputs-end Inv-loop μ-loop
-part-copy-outputs-end c = ?
+part-copy-outputs-end c =
+    omega (
+      arith,
+      room _ _ _ _
+          (c .before .before .before .before .before .before .before .before .before .before .before .loop-test .taken)
+          (c .before .before .before .before .before .before .before .before .before .before .before .before .before .before .before .before .before .before .before .before .before .pre .room),
+      c .before .before .before .before .before .before .before .before .before .before .before .before .loop .inv .1 .sizeY,
+    )
 
 copy-outputs-requires : tie.Need-copy-outputs-requires Inv-loop μ-loop
-copy-outputs-requires c κs = ?
+copy-outputs-requires c κs =
+    let p = c .before .before .before .before .before .before .before .before .before .before .before .before .before .before .before .before .before .before .before .before .before .before .pre .fits in
+    let g = c .before .before .before .before .before .before .before .before .before .before .before .before .before .loop .inv .1 in (
+      omega (
+        arith,
+        p .first _
+            (last _ (p .some)),
+        g .sizeA,
+        c .before .before .before .before .before .before .before .before .run-row .kept .1 .1 .1 .1 .0,
+      ),
+      omega (
+        arith,
+        p .second _
+            (last _ (p .some)),
+        g .sizeB,
+        c .before .before .before .before .before .before .before .before .run-row .kept .1 .1 .1 .1 .1 .0,
+      ),
+      rw rest-length (omega (
+        arith,
+        room _ _ _ _
+            (c .before .before .before .before .before .before .before .before .before .before .before .before .loop-test .taken)
+            (c .before .before .before .before .before .before .before .before .before .before .before .before .before .before .before .before .before .before .before .before .before .before .pre .room),
+        g .sizeY,
+      )),
+    )
 
 add-r : tie.Need-add-r Inv-loop μ-loop
-add-r c = ?
+add-r c = omega arith
 
 loop-less : tie.Need-loop-less Inv-loop μ-loop
-loop-less c = ?
+loop-less c = omega arith
 
 loop-again : tie.Need-loop-again Inv-loop μ-loop
-loop-again c = ?
+loop-again c =
+    let g = c .before .before .before .before .before .before .before .before .before .before .before .before .before .before .before .before .loop .inv .1 in (
+      omega arith,
+      one-row _ _ _ _ _ _ _ _ _ _ _ _ _ _ _
+          (c .before .before .before .before .before .before .before .before .before .before .before .before .before .before .before .before .before .before .before .before .before .before .before .before .before .pre .fits .some) (omega (arith, room _ _ _ _ (c .before .before .before .before .before .before .before .before .before .before .before .before .before .before .before .loop-test .taken) (c .before .before .before .before .before .before .before .before .before .before .before .before .before .before .before .before .before .before .before .before .before .before .before .before .before .pre .room), g .sizeY)) (c .before .before .before .before .before .before .before .before .before .before .before .run-row .kept .1 .1 .1 .1 .0) (c .before .before .before .before .before .before .before .before .before .before .before .run-row .kept .1 .1 .1 .1 .1 .0) (c .before .outputs .given .1) g (rw (c .before .before .before .before .before .before .before .before .before .before .before .before .before .before .row .ensures) at (c .before .before .before .before .before .before .before .before .before .before .before .run-row .ensures)) (c .before .before .before .before .before .before .if1 .left)
+          (c .before .before .copy-outputs .ensures),
+    )
 
 same-length-4 : tie.Need-same-length-4 Inv-loop μ-loop
-same-length-4 c = ?
+same-length-4 c = c .before .loop .inv .1 .sizeA
 
 same-length-5 : tie.Need-same-length-5 Inv-loop μ-loop
-same-length-5 c = ?
+same-length-5 c = c .before .loop .inv .1 .sizeB
 
 same-length-6 : tie.Need-same-length-6 Inv-loop μ-loop
-same-length-6 c = ?
+same-length-6 c = c .before .loop .inv .1 .sizeY
 
 returns-2 : tie.Need-returns-2 Inv-loop μ-loop
-returns-2 c = ?
+returns-2 c = all-rows _ _ _ _ _ _ _ _ _ _ _ _ (omega arith) (c .before .loop .inv .1)
 
 pub predict-rows-spec : {M : Type 1} → statement M
 predict-rows-spec =

@@ -18,29 +18,40 @@ returns c = rw (← c .before .before .rows-in .ensures, ← c .before .rows-in2
 
 returns-2 : tie.Need-returns-2
 unfolding batchFault
-returns-2 c = rw (← c .before .before .before .rows-in .ensures, ← c .before .before .rows-in2 .ensures, eq-eqb _ _ (c .before .if1 .left), eq-eqb _ _ (c .if2 .taken))
+returns-2 c =
+    rw (
+      ← c .before .before .before .rows-in .ensures,
+      ← c .before .before .rows-in2 .ensures,
+      eq-eqb _ _
+          (c .before .if1 .left),
+      eq-eqb _ _ (c .if2 .taken),
+    )
 
 rows-fault-requires : tie.Need-rows-fault-requires
 rows-fault-requires c κs = search needs
 
 returns-3 : tie.Need-returns-3
 unfolding batchFault
-returns-3 c = rw (← c .before .before .before .before .before .rows-in .ensures, ← c .before .before .before .before .rows-in2 .ensures, eq-eqb _ _ (c .before .before .before .if1 .left), ne-eqb _ _ (c .before .before .if2 .left), ← c .before .rows-fault .ensures) (or-first _ _ (c .if3 .taken))
+returns-3 c =
+    rw (← c .before .before .before .before .before .rows-in .ensures, ← c .before .before .before .before .rows-in2 .ensures, eq-eqb _ _ (c .before .before .before .if1 .left), ne-eqb _ _ (c .before .before .if2 .left), ← c .before .rows-fault .ensures) (or-first _ _ (c .if3 .taken))
 
 rows-fault-requires-2 : tie.Need-rows-fault-requires-2
 rows-fault-requires-2 c κs = search needs
 
 returns-4 : tie.Need-returns-4
 unfolding batchFault
-returns-4 c = rw (← c .before .before .before .before .before .before .before .rows-in .ensures, ← c .before .before .before .before .before .before .rows-in2 .ensures, eq-eqb _ _ (c .before .before .before .before .before .if1 .left), ne-eqb _ _ (c .before .before .before .before .if2 .left), ← c .before .before .before .rows-fault .ensures, c .before .before .if3 .left, ← c .before .rows-fault2 .ensures) (or-first _ _ (c .if4 .taken))
+returns-4 c =
+    rw (← c .before .before .before .before .before .before .before .rows-in .ensures, ← c .before .before .before .before .before .before .rows-in2 .ensures, eq-eqb _ _ (c .before .before .before .before .before .if1 .left), ne-eqb _ _ (c .before .before .before .before .if2 .left), ← c .before .before .before .rows-fault .ensures, c .before .before .if3 .left, ← c .before .rows-fault2 .ensures) (or-first _ _ (c .if4 .taken))
 
 returns-5 : tie.Need-returns-5
 unfolding batchFault
-returns-5 c = rw (← c .before .before .before .before .before .before .before .before .rows-in .ensures, ← c .before .before .before .before .before .before .before .rows-in2 .ensures, eq-eqb _ _ (c .before .before .before .before .before .before .if1 .left), ne-eqb _ _ (c .before .before .before .before .before .if2 .left), ← c .before .before .before .before .rows-fault .ensures, c .before .before .before .if3 .left, ← c .before .before .rows-fault2 .ensures, c .before .if4 .left, le-leb _ _ (c .if5 .taken))
+returns-5 c =
+    rw (← c .before .before .before .before .before .before .before .before .rows-in .ensures, ← c .before .before .before .before .before .before .before .rows-in2 .ensures, eq-eqb _ _ (c .before .before .before .before .before .before .if1 .left), ne-eqb _ _ (c .before .before .before .before .before .if2 .left), ← c .before .before .before .before .rows-fault .ensures, c .before .before .before .if3 .left, ← c .before .before .rows-fault2 .ensures, c .before .if4 .left, le-leb _ _ (c .if5 .taken))
 
 returns-6 : tie.Need-returns-6
 unfolding batchFault
-returns-6 c = rw (← c .before .before .before .before .before .before .before .before .rows-in .ensures, ← c .before .before .before .before .before .before .before .rows-in2 .ensures, eq-eqb _ _ (c .before .before .before .before .before .before .if1 .left), ne-eqb _ _ (c .before .before .before .before .before .if2 .left), ← c .before .before .before .before .rows-fault .ensures, c .before .before .before .if3 .left, ← c .before .before .rows-fault2 .ensures, c .before .if4 .left, lt-leb _ _ (c .if5 .left))
+returns-6 c =
+    rw (← c .before .before .before .before .before .before .before .before .rows-in .ensures, ← c .before .before .before .before .before .before .before .rows-in2 .ensures, eq-eqb _ _ (c .before .before .before .before .before .before .if1 .left), ne-eqb _ _ (c .before .before .before .before .before .if2 .left), ← c .before .before .before .before .rows-fault .ensures, c .before .before .before .if3 .left, ← c .before .before .rows-fault2 .ensures, c .before .if4 .left, lt-leb _ _ (c .if5 .left))
 
 pub batch-fault-spec : {M : Type 1} → statement M
 batch-fault-spec =

@@ -27,7 +27,8 @@ loop-holds : tie.Need-loop-holds Inv-loop μ-loop
 loop-holds c = (omega arith, first-none _)
 
 row-requires : tie.Need-row-requires Inv-loop μ-loop
-row-requires c κs = le-of-lt (row-begins _ _ _ (c .before .before .before .before .pre) (rw (c .before .before .rows-in .ensures) at (c .loop-test .taken)))
+row-requires c κs =
+    le-of-lt (row-begins _ _ _ (c .before .before .before .before .pre) (rw (c .before .before .rows-in .ensures) at (c .loop-test .taken)))
 
 row-fault-requires : tie.Need-row-fault-requires Inv-loop μ-loop
 row-fault-requires c κs = search needs
@@ -36,7 +37,9 @@ returns : tie.Need-returns Inv-loop μ-loop
 unfolding rowsFault
 returns c =
     let f = c .before .row-fault .ensures ∙ ap (rowFault _ _ _) (c .before .before .row .ensures) in
-    f ∙ sym (first-stop _ _ _ (rw (c .before .before .before .before .before .rows-in .ensures) at (c .before .before .before .loop-test .taken)) (c .before .before .before .before .loop .inv .1) (rw f at (c .if1 .taken)))
+    f ∙ sym (first-stop _ _ _
+    (rw (c .before .before .before .before .before .rows-in .ensures) at (c .before .before .before .loop-test .taken))
+    (c .before .before .before .before .loop .inv .1) (rw f at (c .if1 .taken)))
 
 add-r : tie.Need-add-r Inv-loop μ-loop
 add-r c = omega arith
@@ -45,11 +48,17 @@ loop-less : tie.Need-loop-less Inv-loop μ-loop
 loop-less c = omega arith
 
 loop-again : tie.Need-loop-again Inv-loop μ-loop
-loop-again c = (omega arith, first-more _ _ (c .before .before .before .before .loop .inv .1) (sym (ap (rowFault _ _ _) (c .before .before .row .ensures)) ∙ sym (c .before .row-fault .ensures) ∙ c .if1 .left))
+loop-again c = (
+  omega arith,
+  first-more _ _ (c .before .before .before .before .loop .inv .1)
+      (sym (ap (rowFault _ _ _) (c .before .before .row .ensures)) ∙ sym (c .before .row-fault .ensures) ∙ c .if1 .left),
+)
 
 returns-2 : tie.Need-returns-2 Inv-loop μ-loop
 unfolding rowsFault
-returns-2 c = sym (c .before .loop .inv .1) ∙ ap (firstFault _) (end _ _ (c .loop-test .left) (c .before .loop .inv .0) ∙ c .before .before .rows-in .ensures)
+returns-2 c =
+    sym (c .before .loop .inv .1)
+    ∙ ap (firstFault _) (end _ _ (c .loop-test .left) (c .before .loop .inv .0) ∙ c .before .before .rows-in .ensures)
 
 pub rows-fault-spec : {M : Type 1} → statement M
 rows-fault-spec =

@@ -34,7 +34,8 @@ keeps : {g : Grid} {ps qs : List Float} {ws : List ℕ} {xs a₀ b₀ a b a' b' 
     → Turned (basisOf g) qs l (widthAt ws l) (widthAt ws (l + 1)) a b a' b' r → Kept ws a₀ b₀ a' b'
 keeps {g} {ps} {qs} {ws} {xs} {a₀} {b₀} {a} {b} {a'} {b'} {r} l at h f k t =
     let n = most ws a₀ b₀ a b (f .first) (f .second) (k .kept) (l + 1) (omega arith) in
-    kept-turn (basisOf g) qs ws a₀ b₀ l (widthAt ws l) (widthAt ws (l + 1)) a b a' b' r (n .0) (n .1) (λ m q. q (l + 1) (omega arith)) t (k .kept)
+    kept-turn (basisOf g) qs ws a₀ b₀ l (widthAt ws l) (widthAt ws (l + 1)) a b a' b' r (n .0) (n .1)
+    (λ m q. q (l + 1) (omega arith)) t (k .kept)
 
 abbrev Inv-loop : tie.InvT-loop
 Inv-loop grid widths model first₀ second₀ layers stride at₀ l₀ first second at l =
@@ -68,16 +69,36 @@ shared-slice-read-n : tie.Need-shared-slice-read-n Inv-loop μ-loop
 shared-slice-read-n c = omega arith
 
 mul-turn : tie.Need-mul-turn Inv-loop μ-loop
-mul-turn c = omega (arith, inside _ _ (c .before .before .loop-test .taken) (c .before .before .before .before .before .before .before .before .before .pre) (c .before .before .before .loop .inv .1))
+mul-turn c =
+    omega (
+      arith,
+      inside _ _ (c .before .before .loop-test .taken)
+          (c .before .before .before .before .before .before .before .before .before .pre) (c .before .before .before .loop .inv .1),
+    )
 
 sub-turn : tie.Need-sub-turn Inv-loop μ-loop
-sub-turn c = omega (arith, inside _ _ (c .before .before .loop-test .taken) (c .before .before .before .before .before .before .before .before .before .pre) (c .before .before .before .loop .inv .1))
+sub-turn c =
+    omega (
+      arith,
+      inside _ _ (c .before .before .loop-test .taken)
+          (c .before .before .before .before .before .before .before .before .before .pre) (c .before .before .before .loop .inv .1),
+    )
 
 part-turn-start : tie.Need-part-turn-start Inv-loop μ-loop
-part-turn-start c = omega (arith, inside _ _ (c .before .before .loop-test .taken) (c .before .before .before .before .before .before .before .before .before .pre) (c .before .before .before .loop .inv .1))
+part-turn-start c =
+    omega (
+      arith,
+      inside _ _ (c .before .before .loop-test .taken)
+          (c .before .before .before .before .before .before .before .before .before .pre) (c .before .before .before .loop .inv .1),
+    )
 
 part-turn-end : tie.Need-part-turn-end Inv-loop μ-loop
-part-turn-end c = omega (arith, inside _ _ (c .before .before .loop-test .taken) (c .before .before .before .before .before .before .before .before .before .pre) (c .before .before .before .loop .inv .1))
+part-turn-end c =
+    omega (
+      arith,
+      inside _ _ (c .before .before .loop-test .taken)
+          (c .before .before .before .before .before .before .before .before .before .pre) (c .before .before .before .loop .inv .1),
+    )
 
 turn-requires : tie.Need-turn-requires Inv-loop μ-loop
 turn-requires c κs =
@@ -92,28 +113,59 @@ turn-requires c κs =
       fromSecond = w .1;
       toFirst = n .0;
       toSecond = n .1;
-      params = rw rest-length (omega (arith, inside _ _ (c .before .before .before .before .before .loop-test .taken) (c .before .before .before .before .before .before .before .before .before .before .before .before .pre) (c .before .before .before .before .before .before .loop .inv .1)));
+      params =
+          rw rest-length (omega (
+            arith,
+            inside _ _ (c .before .before .before .before .before .loop-test .taken)
+                (c .before .before .before .before .before .before .before .before .before .before .before .before .pre)
+                (c .before .before .before .before .before .before .loop .inv .1),
+          ));
     }
 
 same-length : tie.Need-same-length Inv-loop μ-loop
-same-length c = keeps _ _ (c .before .before .before .before .before .before .before .before .before .before .before .loop-test .taken) (c .before .before .before .before .before .before .before .before .before .before .before .before .before .before .before .before .before .before .pre) (c .before .before .before .before .before .before .before .before .before .before .before .before .loop .inv .1) (c .before .before .before .before .before .turn .ensures) .sizeA
+same-length c =
+    keeps _ _ (c .before .before .before .before .before .before .before .before .before .before .before .loop-test .taken)
+    (c .before .before .before .before .before .before .before .before .before .before .before .before .before .before .before .before .before .before .pre) (c .before .before .before .before .before .before .before .before .before .before .before .before .loop .inv .1) (c .before .before .before .before .before .turn .ensures) .sizeA
 
 same-length-2 : tie.Need-same-length-2 Inv-loop μ-loop
-same-length-2 c = keeps _ _ (c .before .before .before .before .before .before .before .before .before .before .before .loop-test .taken) (c .before .before .before .before .before .before .before .before .before .before .before .before .before .before .before .before .before .before .pre) (c .before .before .before .before .before .before .before .before .before .before .before .before .loop .inv .1) (c .before .before .before .before .before .turn .ensures) .sizeB
+same-length-2 c =
+    keeps _ _ (c .before .before .before .before .before .before .before .before .before .before .before .loop-test .taken)
+    (c .before .before .before .before .before .before .before .before .before .before .before .before .before .before .before .before .before .before .pre) (c .before .before .before .before .before .before .before .before .before .before .before .before .loop .inv .1) (c .before .before .before .before .before .turn .ensures) .sizeB
 
 returns : tie.Need-returns Inv-loop μ-loop
 returns c =
-    let kept = keeps _ _ (c .before .before .before .before .before .before .before .before .before .before .before .loop-test .taken) (c .before .before .before .before .before .before .before .before .before .before .before .before .before .before .before .before .before .before .pre) (c .before .before .before .before .before .before .before .before .before .before .before .before .loop .inv .1) (c .before .before .before .before .before .turn .ensures) in
-    stopped _ _ _ _ _ _ _ _ _ _ _ _ _ (not-true _ (c .if1 .taken)) (c .before .before .before .before .before .before .before .before .before .before .before .loop-test .taken) kept (c .before .before .before .before .before .before .before .before .before .before .before .before .loop .inv .1) (c .before .before .before .before .before .turn .ensures)
+    let kept = keeps _ _ (c .before .before .before .before .before .before .before .before .before .before .before .loop-test .taken)
+    (c .before .before .before .before .before .before .before .before .before .before .before .before .before .before .before .before .before .before .pre) (c .before .before .before .before .before .before .before .before .before .before .before .before .loop .inv .1) (c .before .before .before .before .before .turn .ensures) in
+    stopped _ _ _ _ _ _ _ _ _ _ _ _ _ (not-true _ (c .if1 .taken))
+    (c .before .before .before .before .before .before .before .before .before .before .before .loop-test .taken) kept
+    (c .before .before .before .before .before .before .before .before .before .before .before .before .loop .inv .1)
+    (c .before .before .before .before .before .turn .ensures)
 
 mul-at : tie.Need-mul-at Inv-loop μ-loop
-mul-at c = omega (arith, row-room _ _ _ (c .before .before .before .before .before .before .before .before .before .before .before .before .before .before .before .before .before .before .pre .positive (c .before .before .before .before .before .before .before .before .before .before .before .before .loop .l + 1) (omega arith)) (le-trans (le-add-left _ _) (inside _ _ (c .before .before .before .before .before .before .before .before .before .before .before .loop-test .taken) (c .before .before .before .before .before .before .before .before .before .before .before .before .before .before .before .before .before .before .pre) (c .before .before .before .before .before .before .before .before .before .before .before .before .loop .inv .1))))
+mul-at c =
+    omega (
+      arith,
+      row-room _ _ _
+          (c .before .before .before .before .before .before .before .before .before .before .before .before .before .before .before .before .before .before .pre .positive (c .before .before .before .before .before .before .before .before .before .before .before .before .loop .l + 1) (omega arith)) (le-trans (le-add-left _ _) (inside _ _ (c .before .before .before .before .before .before .before .before .before .before .before .loop-test .taken) (c .before .before .before .before .before .before .before .before .before .before .before .before .before .before .before .before .before .before .pre) (c .before .before .before .before .before .before .before .before .before .before .before .before .loop .inv .1))),
+    )
 
 mul-at-2 : tie.Need-mul-at-2 Inv-loop μ-loop
-mul-at-2 c = omega (arith, inside _ _ (c .before .before .before .before .before .before .before .before .before .before .before .loop-test .taken) (c .before .before .before .before .before .before .before .before .before .before .before .before .before .before .before .before .before .before .pre) (c .before .before .before .before .before .before .before .before .before .before .before .before .loop .inv .1))
+mul-at-2 c =
+    omega (
+      arith,
+      inside _ _
+          (c .before .before .before .before .before .before .before .before .before .before .before .loop-test .taken)
+          (c .before .before .before .before .before .before .before .before .before .before .before .before .before .before .before .before .before .before .pre) (c .before .before .before .before .before .before .before .before .before .before .before .before .loop .inv .1),
+    )
 
 add-at : tie.Need-add-at Inv-loop μ-loop
-add-at c = omega (arith, inside _ _ (c .before .before .before .before .before .before .before .before .before .before .before .loop-test .taken) (c .before .before .before .before .before .before .before .before .before .before .before .before .before .before .before .before .before .before .pre) (c .before .before .before .before .before .before .before .before .before .before .before .before .loop .inv .1))
+add-at c =
+    omega (
+      arith,
+      inside _ _
+          (c .before .before .before .before .before .before .before .before .before .before .before .loop-test .taken)
+          (c .before .before .before .before .before .before .before .before .before .before .before .before .before .before .before .before .before .before .pre) (c .before .before .before .before .before .before .before .before .before .before .before .before .loop .inv .1),
+    )
 
 add-l : tie.Need-add-l Inv-loop μ-loop
 add-l c = omega arith
@@ -123,8 +175,13 @@ loop-less c = omega arith
 
 loop-again : tie.Need-loop-again Inv-loop μ-loop
 loop-again c =
-    let kept = keeps _ _ (c .before .before .before .before .before .before .before .before .before .before .before .loop-test .taken) (c .before .before .before .before .before .before .before .before .before .before .before .before .before .before .before .before .before .before .pre) (c .before .before .before .before .before .before .before .before .before .before .before .before .loop .inv .1) (c .before .before .before .before .before .turn .ensures) in
-    (omega arith, one-layer _ _ _ _ _ _ _ _ _ _ _ _ _ (not-false _ (c .if1 .left)) kept (c .before .before .before .before .before .before .before .before .before .before .before .before .loop .inv .1) (c .before .before .before .before .before .turn .ensures))
+    let kept = keeps _ _ (c .before .before .before .before .before .before .before .before .before .before .before .loop-test .taken)
+    (c .before .before .before .before .before .before .before .before .before .before .before .before .before .before .before .before .before .before .pre) (c .before .before .before .before .before .before .before .before .before .before .before .before .loop .inv .1) (c .before .before .before .before .before .turn .ensures) in (
+      omega arith,
+      one-layer _ _ _ _ _ _ _ _ _ _ _ _ _ (not-false _ (c .if1 .left)) kept
+          (c .before .before .before .before .before .before .before .before .before .before .before .before .loop .inv .1)
+          (c .before .before .before .before .before .turn .ensures),
+    )
 
 same-length-3 : tie.Need-same-length-3 Inv-loop μ-loop
 same-length-3 c = c .before .loop .inv .1 .kept .sizeA

@@ -19,14 +19,24 @@ returns : tie.Need-returns
 returns c = at-fault _ _ _ _ _ _ _ (c .before .row-fault .ensures) (c .if1 .taken)
 
 copy-requires : tie.Need-copy-requires
-copy-requires c κs = omega (arith, full _ _ (sym (c .before .before .row-fault .ensures) ∙ c .before .if1 .left), c .before .before .before .before .before .before .before .before .before .pre .second 0 (omega (arith, c .before .before .before .before .before .before .before .before .before .pre .some)))
+copy-requires c κs =
+    omega (
+      arith,
+      full _ _
+          (sym (c .before .before .row-fault .ensures)
+          ∙ c .before .if1 .left),
+      c .before .before .before .before .before .before .before .before .before .pre .second 0
+          (omega (arith, c .before .before .before .before .before .before .before .before .before .pre .some)),
+    )
 
 run-layers-requires : tie.Need-run-layers-requires
 run-layers-requires c κs =
     let p = c .before .before .before .before .before .before .before .before .before .before .before .before .before .before .pre in
-    let wide = full _ _ (sym (c .before .before .before .before .before .before .before .row-fault .ensures) ∙ c .before .before .before .before .before .before .if1 .left) in
+    let wide = full _ _ (sym (c .before .before .before .before .before .before .before .row-fault .ensures)
+    ∙ c .before .before .before .before .before .before .if1 .left) in
     let row = c .before .before .before .before .before .before .before .before .before .before .before .before .before .before .args .row .now in
-    let size = same-size row (length row) (c .before .before .before .before .before .before .before .before .before .before .before .before .before .before .args .second .now) _ refl (omega (arith, wide, p .second 0 (omega (arith, p .some)))) (c .before .before .before .before .copy .ensures) in
+    let size = same-size row (length row)
+    (c .before .before .before .before .before .before .before .before .before .before .before .before .before .before .args .second .now) _ refl (omega (arith, wide, p .second 0 (omega (arith, p .some)))) (c .before .before .before .before .copy .ensures) in
     record {
       grid = p .grid;
       some = p .some;
@@ -44,7 +54,8 @@ same-length-2 c = search needs
 
 returns-2 : tie.Need-returns-2
 returns-2 c =
-    through _ _ _ _ _ _ _ _ _ _ _ (omega (arith, c .before .before .before .before .before .before .before .before .before .before .before .before .before .before .before .before .before .before .before .before .pre .some)) (sym (c .before .before .before .before .before .before .before .before .before .before .before .before .before .row-fault .ensures) ∙ c .before .before .before .before .before .before .before .before .before .before .before .before .if1 .left) (c .before .before .before .before .before .before .before .before .before .before .copy .ensures)
+    through _ _ _ _ _ _ _ _ _ _ _
+    (omega (arith, c .before .before .before .before .before .before .before .before .before .before .before .before .before .before .before .before .before .before .before .before .pre .some)) (sym (c .before .before .before .before .before .before .before .before .before .before .before .before .before .row-fault .ensures) ∙ c .before .before .before .before .before .before .before .before .before .before .before .before .if1 .left) (c .before .before .before .before .before .before .before .before .before .before .copy .ensures)
     (c .before .before .before .before .before .run-layers .ensures) (sym (rw (c .if2 .taken)))
 
 same-length-3 : tie.Need-same-length-3
@@ -55,7 +66,8 @@ same-length-4 c = search needs
 
 returns-3 : tie.Need-returns-3
 returns-3 c =
-    through _ _ _ _ _ _ _ _ _ _ _ (omega (arith, c .before .before .before .before .before .before .before .before .before .before .before .before .before .before .before .before .before .before .before .before .pre .some)) (sym (c .before .before .before .before .before .before .before .before .before .before .before .before .before .row-fault .ensures) ∙ c .before .before .before .before .before .before .before .before .before .before .before .before .if1 .left) (c .before .before .before .before .before .before .before .before .before .before .copy .ensures)
+    through _ _ _ _ _ _ _ _ _ _ _
+    (omega (arith, c .before .before .before .before .before .before .before .before .before .before .before .before .before .before .before .before .before .before .before .before .pre .some)) (sym (c .before .before .before .before .before .before .before .before .before .before .before .before .before .row-fault .ensures) ∙ c .before .before .before .before .before .before .before .before .before .before .before .before .if1 .left) (c .before .before .before .before .before .before .before .before .before .before .copy .ensures)
     (c .before .before .before .before .before .run-layers .ensures) (sym (rw (c .if2 .left)))
 
 pub run-row-spec : {M : Type 1} → statement M

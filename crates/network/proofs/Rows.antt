@@ -1,0 +1,154 @@
+-- Prediction row by row: where it stands before row r, a row more, a stop, and the end. Assumes nothing.
+use mathlib.Core.Path.{_≡_, refl, sym, ap, _∙_}
+use mathlib.Core.Bool.{Bool, true, false}
+use mathlib.Core.List.{List, _++_}
+use Prim.Native.Nat.{ℕ, zero, suc, _+_, _-_, _*_, _≤_, _<_}
+use native.Mathlib.Nat.{le-of-eq}
+use native.Mathlib.Omega.{arith}
+use borrow.Author.Tests.{eqb-true}
+use lib.ListN.{length, take, drop}
+use lib.Ieee.{Float}
+use borrow.Rule.Slice.PartMut.{putMid}
+use Rattle.floats.specs.Sums.{flatTo, allFinite}
+use Rattle.floats.proofs.Loops.{flat-none, part-more, rest}
+use Rattle.spline.specs.declared.Grid.{Grid}
+use Rattle.layers.specs.Basis.{Basis}
+use Rattle.layers.specs.Layer.{layerOf}
+use Rattle.layers.specs.Widths.{widthAt, paramsTo}
+use Rattle.rows.specs.Pass.{nodesOf, outputsOf, rowRefusal}
+use Rattle.rows.specs.Batch.{rowsIn, rowAt, firstFault, doneTo}
+use Rattle.rows.specs.Turns.{holder, Fits, Ran}
+use Rattle.rows.proofs.Batches.{first-none, first-more, first-stop, done-all, done-stop}
+use Rattle.rows.proofs.Passes.{layer-length}
+use Rattle.config.specs.declared.Outcome.{Outcome}
+use Rattle.config.specs.declared.Outcome.the-variants.{Done}
+use Rattle.network.specs.Admission.{refusedWith}
+use Rattle.network.specs.Predict.{inWidth, outWidth, refusalAt, outputsAt, stopAt, rowsOutcome, rowsWritten}
+use Rattle.network.specs.Predict.{outputsFit, predictOutcome, predictWritten}
+use Rattle.network.specs.Steps.{Past, RowsDone, BatchDone}
+
+pub outputs-length : (B : Basis) (ps : List Float) (ws : List ℕ) (xs : List Float) → 2 ≤ length ws
+    → length (outputsOf B ps ws xs) ≡ outWidth ws
+unfolding nodesOf
+outputs-length B ps ws xs h = go (length ws - 1) (omega arith)
+  where
+    go : (l : ℕ) → 1 ≤ l → length (nodesOf B ps ws xs l) ≡ widthAt ws l
+    go zero h = absurd (omega arith)
+    go (suc l) h = layer-length B (drop (paramsTo (B .stride) ws l) ps) (nodesOf B ps ws xs l) (widthAt ws (suc l))
+
+-- slices of the same lengths fit as well
+pub fits-moved : (g : Grid) (ps : List Float) (ws : List ℕ) (a₀ b₀ a b : List Float) → Fits g ps ws a₀ b₀ → length a ≡ length a₀
+    → length b ≡ length b₀
+    → Fits g ps ws a b
+fits-moved g ps ws a₀ b₀ a b f p q = record {
+  grid = f .grid;
+  some = f .some;
+  positive = f .positive;
+  params = f .params;
+  first = λ j h. omega (arith, f .first j h);
+  second = λ j h. omega (arith, f .second j h);
+}
+
+pub record Going (B : Basis) (ps : List Float) (ws : List ℕ) (xs a₀ b₀ ys₀ : List Float) (r : ℕ) (a b ys : List Float) : Type 0 where
+  pub sound : firstFault (refusalAt B ps ws xs) r ≡ 0
+  pub outputs : ys ≡ flatTo (outputsAt B ps ws xs) r ++ drop (r * outWidth ws) ys₀
+  pub sizeA : length a ≡ length a₀
+  pub sizeB : length b ≡ length b₀
+  pub sizeY : length ys ≡ length ys₀
+  pub first : Past ws a₀ a
+  pub second : Past ws b₀ b
+
+module _ (B : Basis) (ps : List Float) (ws : List ℕ) (xs a₀ b₀ ys₀ : List Float) where
+  pub before-first : Going B ps ws xs a₀ b₀ ys₀ 0 a₀ b₀ ys₀
+  before-first = record {
+    sound = first-none _;
+    outputs = flat-none _ (outWidth ws) ys₀;
+    sizeA = refl;
+    sizeB = refl;
+    sizeY = refl;
+    first = λ m h. refl;
+    second = λ m h. refl;
+  }
+
+  -- row r was run, with the number k, and its outputs were copied to their place: y is what the copy left from there on
+  pub one-row : (r k : ℕ) (a b ys a' b' y : List Float) → 2 ≤ length ws → r * outWidth ws ≤ length ys → length a' ≡ length a
+      → length b' ≡ length b
+      → length (putMid (r * outWidth ws) (length ys - r * outWidth ws) ys y) ≡ length ys
+      → Going B ps ws xs a₀ b₀ ys₀ r a b ys → Ran B ps ws (rowAt xs (inWidth ws) r) a b a' b' k → k ≡ 0
+      → y ≡ take (outWidth ws) (holder (length ws - 1) a' b') ++ drop (outWidth ws)
+      (take (length ys - r * outWidth ws) (drop (r * outWidth ws) ys))
+      → Going B ps ws xs a₀ b₀ ys₀ (r + 1) a' b' (putMid (r * outWidth ws) (length ys - r * outWidth ws) ys y)
+  one-row r k a b ys a' b' y some h la lb ly g t e q = record {
+    sound = first-more _ r (g .sound) (sym (t .refusal) ∙ e);
+    outputs =
+        part-more (outputsAt B ps ws xs) (outWidth ws) (λ j. outputs-length B ps ws (rowAt xs (inWidth ws) j) some) r ys₀ ys y
+        (g .outputs) h
+        (λ d. q ∙ ap (λ (l : List Float). l ++ drop (outWidth ws) (take (length ys - r * outWidth ws) (drop (r * outWidth ws) ys)))
+        (t .outputs e)
+        ∙ ap (λ (l : List Float). outputsAt B ps ws xs r ++ drop (outWidth ws) l) (rest (r * outWidth ws) ys ∙ d));
+    sizeA = la ∙ g .sizeA;
+    sizeB = lb ∙ g .sizeB;
+    sizeY = ly ∙ g .sizeY;
+    first = λ m p. t .first m p ∙ g .first m p;
+    second = λ m p. t .second m p ∙ g .second m p;
+  }
+
+  stops : (n row : ℕ) → (n ≡ 0 → ⊥) → refusedWith n row ≡ stopAt n row
+  stops zero row h = absurd (h refl)
+  stops (suc n) row h = refl
+
+  pub row-refused : (r k rows : ℕ) (a b ys a' b' : List Float) → r < rows → Going B ps ws xs a₀ b₀ ys₀ r a b ys
+      → Ran B ps ws (rowAt xs (inWidth ws) r) a b a' b' k → (k ≡ 0 → ⊥)
+      → RowsDone B ps ws xs rows a₀ b₀ ys₀ (refusedWith k r) a' b' ys
+  unfolding rowsOutcome rowsWritten
+  row-refused r k rows a b ys a' b' h g t n =
+      let f = refusalAt B ps ws xs in
+      let m : (f r ≡ 0 → ⊥) = λ (e : f r ≡ 0). n (t .refusal ∙ e) in
+      let first : firstFault f rows ≡ k = first-stop f r rows h (g .sound) m ∙ sym (t .refusal) in
+      let done : doneTo f rows ≡ r = done-stop f r rows h (g .sound) m in
+      record {
+        answer = stops k r n ∙ sym (rw (first, done));
+        outputs = g .outputs ∙ sym (rw done);
+        first = λ i p. t .first i p ∙ g .first i p;
+        second = λ i p. t .second i p ∙ g .second i p;
+      }
+
+  pub all-rows : (r rows : ℕ) (a b ys : List Float) → r ≡ rows → Going B ps ws xs a₀ b₀ ys₀ r a b ys
+      → RowsDone B ps ws xs rows a₀ b₀ ys₀ Done a b ys
+  unfolding rowsOutcome rowsWritten
+  all-rows r rows a b ys e g =
+      let first : firstFault (refusalAt B ps ws xs) rows ≡ 0 = rw (← e) (g .sound) in
+      let done : doneTo (refusalAt B ps ws xs) rows ≡ r = done-all (refusalAt B ps ws xs) rows first ∙ sym e in
+      record { answer = sym (rw first); outputs = g .outputs ∙ sym (rw done); first = g .first; second = g .second }
+
+-- ---- 10 and 11 before the rows
+module _ (B : Basis) (ps : List Float) (ws : List ℕ) (xs a b ys : List Float) where
+  unmoved : (r : Outcome) → r ≡ predictOutcome B ps ws xs (length ys) → ys ≡ predictWritten B ps ws xs ys
+      → BatchDone B ps ws xs a b ys r a b ys
+  unmoved r p q = record { answer = p; outputs = q; first = λ m h. refl; second = λ m h. refl }
+
+  abbrev fit : Bool
+  fit = outputsFit (inWidth ws) (outWidth ws) (length xs) (length ys)
+
+  pub wrong-outputs : fit ≡ false → BatchDone B ps ws xs a b ys (refusedWith 10 0) a b ys
+  unfolding predictOutcome predictWritten
+  wrong-outputs e = unmoved (refusedWith 10 0) (sym (rw e)) (sym (rw e))
+
+  pub wild-model : fit ≡ true → allFinite ps ≡ false → BatchDone B ps ws xs a b ys (refusedWith 11 0) a b ys
+  unfolding predictOutcome predictWritten
+  wild-model e f = unmoved (refusedWith 11 0) (sym (rw (e, f))) (sym (rw (e, f)))
+
+  pub rows-done : (rows : ℕ) (r : Outcome) (a' b' ys' : List Float) → fit ≡ true → allFinite ps ≡ true
+      → rows ≡ rowsIn (length xs) (inWidth ws)
+      → RowsDone B ps ws xs rows a b ys r a' b' ys' → BatchDone B ps ws xs a b ys r a' b' ys'
+  unfolding predictOutcome predictWritten
+  rows-done rows r a' b' ys' e f n d = record {
+    answer = d .answer ∙ sym (rw (e, f, n));
+    outputs = d .outputs ∙ sym (rw (e, f, n));
+    first = d .first;
+    second = d .second;
+  }
+
+pub outputs-room : (w v n m rows : ℕ) → outputsFit w v n m ≡ true → rows ≡ rowsIn n w → rows * v ≤ m
+unfolding outputsFit
+outputs-room w v n m rows e p = le-of-eq (ap (λ (k : ℕ). k * v) p ∙ sym (eqb-true m (rowsIn n w * v) e))

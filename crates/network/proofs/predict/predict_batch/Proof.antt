@@ -1,0 +1,74 @@
+-- `network::predict_batch` meets its contract: the checks, the work, the sweep. Assumes nothing.
+use mathlib.Core.Path.{_≡_, refl, sym, ap, _∙_}
+use native.Mathlib.Omega.{arith}
+use Prim.Native.Nat.{ℕ, _-_, _<_, _≤_}
+use Rattle.network.proofs.Admitted.{equipped-sound, fitted}
+use Rattle.network.proofs.Calls.{predict-refused, predict-done}
+use borrow.Author.Needs.{needs}
+use Rattle.network.proofs.predict.predict_batch.Statement.{statement}
+use Rattle.network.proofs.predict.predict_batch.Tie as tie
+
+equip-requires : tie.Need-equip-requires
+equip-requires c κs = search needs
+
+enum-known-checked : tie.Need-enum-known-checked
+enum-known-checked c = search needs
+
+enum-known-checked-2 : tie.Need-enum-known-checked-2
+enum-known-checked-2 c = search needs
+
+predict-sound-requires : tie.Need-predict-sound-requires
+predict-sound-requires c κs =
+    fitted _ _ _ _ _ _ (equipped-sound _ _ _ _ _ _
+    (sym (c .before .before .before .before .before .before .equip .ensures) ∙ c .before .before .before .before .checked2 .given .1))
+
+clear-requires : tie.Need-clear-requires
+clear-requires c κs =
+    omega (
+      arith,
+      (equipped-sound _ _ _ _ _ _
+          (sym (c .before .before .before .before .before .before .before .before .before .before .before .before .before .before .equip .ensures) ∙ c .before .before .before .before .before .before .before .before .before .before .before .before .checked2 .given .1)) .first,
+      c .before .before .before .before .before .before .before .predict-sound .kept .1 .1 .1 .1 .0,
+    )
+
+clear-requires-2 : tie.Need-clear-requires-2
+clear-requires-2 c κs =
+    omega (
+      arith,
+      (equipped-sound _ _ _ _ _ _
+          (sym (c .before .before .before .before .before .before .before .before .before .before .before .before .before .before .before .before .before .before .equip .ensures) ∙ c .before .before .before .before .before .before .before .before .before .before .before .before .before .before .before .before .checked2 .given .1)) .second,
+      c .before .before .before .before .before .before .before .before .before .before .before .predict-sound .kept .1 .1 .1 .1 .1 .0,
+    )
+
+returns : tie.Need-returns
+returns c = predict-refused _ _ _ _ _ _ _ _ _ (sym (c .before .before .before .equip .ensures) ∙ c .before .checked .given .1)
+
+same-length : tie.Need-same-length
+same-length c = search needs
+
+same-length-2 : tie.Need-same-length-2
+same-length-2 c = search needs
+
+same-length-3 : tie.Need-same-length-3
+same-length-3 c = search needs
+
+returns-2 : tie.Need-returns-2
+returns-2 c =
+    predict-done _ _ _ _ _ _ _ _ _ _ _ _ _ _ _
+    (sym (c .before .before .before .before .before .before .before .before .before .before .before .before .before .before .before .before .before .before .before .before .before .equip .ensures) ∙ c .before .before .before .before .before .before .before .before .before .before .before .before .before .before .before .before .before .before .before .checked2 .given .1) (c .before .before .before .before .before .before .before .before .before .before .before .before .before .before .predict-sound .ensures) (c .before .before .before .before .before .before .clear .ensures) (c .before .before .clear2 .ensures)
+
+pub predict-batch-spec : {M : Type 1} → statement M
+predict-batch-spec =
+    tie.close
+    (tie.spec
+    equip-requires
+    enum-known-checked
+    enum-known-checked-2
+    predict-sound-requires
+    clear-requires
+    clear-requires-2
+    returns
+    same-length
+    same-length-2
+    same-length-3
+    returns-2)

@@ -67,7 +67,7 @@ module _ (B : Basis) (ps : List Float) (ws : List ℕ) (xs ts : List Float) wher
 
   -- row r, run with the number k
   module _ (r k : ℕ) (z : Float) (a b a' b' : List Float) (so-far : lossTo B ps ws xs ts r ≡ Of z)
-  (sound : rowFaultAt (inWidth ws) 14 15 xs r ≡ 0)
+      (sound : rowFaultAt (inWidth ws) 14 15 xs r ≡ 0)
       (ran : Ran B ps ws (rowAt xs (inWidth ws) r) a b a' b' k) where
     cases : ((k ≡ 0 → nodesFinite B ps ws (rowAt xs (inWidth ws) r) ≡ true)
         × ((k ≡ 0 → ⊥) → (nodesFinite B ps ws (rowAt xs (inWidth ws) r) ≡ false) × (k ≡ 20)))
@@ -84,7 +84,7 @@ module _ (B : Basis) (ps : List Float) (ws : List ℕ) (xs ts : List Float) wher
 
 -- ---- where the sum stands before row r
 pub record Adding (B : Basis) (ps : List Float) (ws : List ℕ) (xs ts a₀ b₀ : List Float) (r : ℕ) (z : Float)
-(a b : List Float) : Type 0 where
+    (a b : List Float) : Type 0 where
   pub value : lossTo B ps ws xs ts r ≡ Of z
   pub sizeA : length a ≡ length a₀
   pub sizeB : length b ≡ length b₀

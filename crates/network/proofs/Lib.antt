@@ -4,3 +4,4 @@ pub mod Admitted
 pub mod Calls
 pub mod Errors
 pub mod Losses
+pub mod Passing

@@ -1,7 +1,7 @@
 -- A single `forward`: "takes its whole slice as one row .. hands back the front of whichever of the two work slices holds the
 -- last layer; the rest of both W-parts is +0.0. On refusal the part is empty. A lent number holds the refusal's number alone,
 -- or 0 on success" (document 01). Definitions only.
-use Prim.Native.Nat.{ℕ, zero, suc, _-_, _%_}
+use Prim.Native.Nat.{ℕ, zero, suc, _-_, _%_, _≤_}
 use mathlib.Core.Path.{_≡_}
 use mathlib.Core.Bool.{Bool, true, false, cond, not}
 use mathlib.Core.List.{List, [], _++_}
@@ -53,3 +53,12 @@ held false os = []
 abbrev pub forwardSlice : Checked → Bool → List Float → List Float → List Float
 forwardSlice (Refused r) here os s = s
 forwardSlice (Sound z) here os s = fronted (held here os) (z .widest) s
+
+-- the number k, how many outputs n there are, both slices, and that n lies within either
+pub record Forwarded (B : Basis) (ws : List ℕ) (g : Grid) (ps xs a b : List Float) (k n : ℕ) (a′ b′ : List Float) : Type 0 where
+  pub number : k ≡ forwardNumber (equipped ws g (length ps) (length a) (length b)) (passRefusal B ps ws xs)
+  pub count : n ≡ length (forwardOutputs (equipped ws g (length ps) (length a) (length b)) (passOutputs B ps ws xs))
+  pub first : a′ ≡ forwardSlice (equipped ws g (length ps) (length a) (length b)) (inFirst ws) (passOutputs B ps ws xs) a
+  pub second : b′ ≡ forwardSlice (equipped ws g (length ps) (length a) (length b)) (not (inFirst ws)) (passOutputs B ps ws xs) b
+  pub withinFirst : n ≤ length a′
+  pub withinSecond : n ≤ length b′

@@ -1,6 +1,7 @@
 // Public crate: calls on a model. Each takes all arguments and answers, or refuses by document 01's number; one record
 // says the answer and the final contents of everything that was lent.
 mod admission;
+mod forward;
 mod loss;
 mod predict;
 

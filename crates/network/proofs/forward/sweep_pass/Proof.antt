@@ -1,0 +1,50 @@
+-- `network::sweep_pass` meets its contract. Assumes nothing.
+use borrow.Author.Tests.{eq-eqb, ne-eqb}
+use borrow.Author.Needs.{needs}
+use Rattle.network.proofs.forward.sweep_pass.Statement.{statement}
+use Rattle.network.proofs.forward.sweep_pass.Tie as tie
+
+sweep-behind-requires : tie.Need-sweep-behind-requires
+sweep-behind-requires c κs = search needs
+
+sweep-behind-requires-2 : tie.Need-sweep-behind-requires-2
+sweep-behind-requires-2 c κs = search needs
+
+sweep-behind-requires-3 : tie.Need-sweep-behind-requires-3
+sweep-behind-requires-3 c κs = search needs
+
+sweep-behind-requires-4 : tie.Need-sweep-behind-requires-4
+sweep-behind-requires-4 c κs = search needs
+
+same-length : tie.Need-same-length
+same-length c = search needs
+
+same-length-2 : tie.Need-same-length-2
+same-length-2 c = search needs
+
+returns : tie.Need-returns
+returns c = let e = eq-eqb _ _ (c .before .before .before .before .before .before .before .before .if1 .taken) in record { first = rw e (c .before .before .before .before .before .before .sweep-behind .ensures); second = rw e (c .before .before .sweep-behind2 .ensures) }
+
+same-length-3 : tie.Need-same-length-3
+same-length-3 c = search needs
+
+same-length-4 : tie.Need-same-length-4
+same-length-4 c = search needs
+
+returns-2 : tie.Need-returns-2
+returns-2 c = let e = ne-eqb _ _ (c .before .before .before .before .before .before .before .before .if1 .left) in record { first = rw e (c .before .before .before .before .before .before .sweep-behind3 .ensures); second = rw e (c .before .before .sweep-behind4 .ensures) }
+
+pub sweep-pass-spec : {M : Type 1} → statement M
+sweep-pass-spec =
+    tie.close
+    (tie.spec
+    sweep-behind-requires
+    sweep-behind-requires-2
+    sweep-behind-requires-3
+    sweep-behind-requires-4
+    same-length
+    same-length-2
+    returns
+    same-length-3
+    same-length-4
+    returns-2)

@@ -4,8 +4,10 @@ mod admission;
 mod forward;
 mod loss;
 mod predict;
+mod start;
 
 pub use loss::Loss;
 pub use loss::Sum;
 pub use loss::mse_loss;
 pub use predict::predict_batch;
+pub use start::initialise;

@@ -1,0 +1,137 @@
+// Public crate: the C linkage, and nothing else. A slice is a pointer and a length in elements; an answer goes out as
+// document 01's number, and what it carries in a lent number.
+ghost use Rattle.estimator.specs.Linkage.{gridOf, CheckLinked, InitialiseLinked, PredictLinked, LossLinked};
+use config::Checked;
+use config::Outcome;
+use network::Loss;
+use spline::Grid;
+
+#[no_mangle]
+pub extern "C" fn kan_check(
+    widths: &[usize],
+    intervals: usize,
+    lo: f32,
+    hi: f32,
+    parameters: &mut usize,
+    carried: &mut usize,
+) -> u32
+    ensures { λ r. ⌜ CheckLinked (now (widths .entry)) (gridOf intervals lo hi) (now (parameters .entry)) r
+        (now (parameters .exit)) (now (carried .exit)) ⌝ }
+{
+    let checked = config::check(widths, Grid { intervals, lo, hi });
+    match checked {
+        Checked::Sound(sizes) => {
+            *parameters = sizes.parameters;
+            *carried = 0;
+            0
+        }
+        Checked::Refused(refusal) => {
+            *carried = refusal.carried;
+            refusal.number
+        }
+    }
+}
+
+#[no_mangle]
+pub extern "C" fn kan_initialise(
+    widths: &[usize],
+    intervals: usize,
+    lo: f32,
+    hi: f32,
+    seed: u64,
+    model: &mut [f32],
+    carried: &mut usize,
+) -> u32
+    ensures { λ r. ⌜ InitialiseLinked (now (widths .entry)) (gridOf intervals lo hi) seed (now (model .entry)) r
+        (now (model .exit)) (now (carried .exit)) ⌝ }
+{
+    let outcome = network::initialise(widths, Grid { intervals, lo, hi }, seed, model);
+    match outcome {
+        Outcome::Done => {
+            *carried = 0;
+            0
+        }
+        Outcome::Refused(refusal) => {
+            *carried = refusal.carried;
+            refusal.number
+        }
+    }
+}
+
+#[no_mangle]
+pub extern "C" fn kan_predict(
+    widths: &[usize],
+    intervals: usize,
+    lo: f32,
+    hi: f32,
+    model: &[f32],
+    inputs: &[f32],
+    first: &mut [f32],
+    second: &mut [f32],
+    outputs: &mut [f32],
+    carried: &mut usize,
+) -> u32
+    ensures { λ r. ⌜ PredictLinked (now (widths .entry)) (gridOf intervals lo hi) (now (model .entry)) (now (inputs .entry))
+        (now (first .entry)) (now (second .entry)) (now (outputs .entry)) r
+        (now (first .exit)) (now (second .exit)) (now (outputs .exit)) (now (carried .exit)) ⌝ }
+{
+    let outcome = network::predict_batch(
+        widths,
+        Grid { intervals, lo, hi },
+        model,
+        inputs,
+        first,
+        second,
+        outputs,
+    );
+    match outcome {
+        Outcome::Done => {
+            *carried = 0;
+            0
+        }
+        Outcome::Refused(refusal) => {
+            *carried = refusal.carried;
+            refusal.number
+        }
+    }
+}
+
+#[no_mangle]
+pub extern "C" fn kan_loss(
+    widths: &[usize],
+    intervals: usize,
+    lo: f32,
+    hi: f32,
+    model: &[f32],
+    inputs: &[f32],
+    targets: &[f32],
+    first: &mut [f32],
+    second: &mut [f32],
+    loss: &mut f32,
+    carried: &mut usize,
+) -> u32
+    ensures { λ r. ⌜ LossLinked (now (widths .entry)) (gridOf intervals lo hi) (now (model .entry)) (now (inputs .entry)) (now (targets .entry))
+        (now (first .entry)) (now (second .entry)) (now (loss .entry)) r
+        (now (first .exit)) (now (second .exit)) (now (loss .exit)) (now (carried .exit)) ⌝ }
+{
+    let answer = network::mse_loss(
+        widths,
+        Grid { intervals, lo, hi },
+        model,
+        inputs,
+        targets,
+        first,
+        second,
+    );
+    match answer {
+        Loss::Mean(mean) => {
+            *loss = mean;
+            *carried = 0;
+            0
+        }
+        Loss::Refused(refusal) => {
+            *carried = refusal.carried;
+            refusal.number
+        }
+    }
+}

@@ -1,0 +1,20 @@
+// The start of a model: its parameters drawn from a seed.
+ghost use Rattle.network.specs.Start.{Initialised};
+use crate::admission::admit;
+use config::Checked;
+use config::Outcome;
+use spline::Grid;
+
+// Fills the model from the seed; refused by the configuration or 8, it is left as it was.
+pub fn initialise(widths: &[usize], grid: Grid, seed: u64, model: &mut [f32]) -> Outcome
+    ensures { λ r. ⌜ Initialised (now (widths .entry)) grid seed (now (model .entry)) r (now (model .exit)) ⌝ }
+{
+    let checked = admit(widths, grid, model.len());
+    match checked {
+        Checked::Refused(refusal) => Outcome::Refused(refusal),
+        Checked::Sound(_) => {
+            initial::initialise(widths, grid, seed, model);
+            Outcome::Done
+        }
+    }
+}

@@ -11,7 +11,9 @@ compare() {
     return $status
 }
 
-rt staticlib leaves >/tmp/estimator-leaves.log 2>&1 || { cat /tmp/estimator-leaves.log; exit 1; }
-rm -f /tmp/estimator-leaves.log
+for archive in leaves estimator; do
+    rt staticlib $archive >/tmp/estimator-archive.log 2>&1 || { cat /tmp/estimator-archive.log; exit 1; }
+done
 compare self-test
 compare leaves --every 4099 --basis 2000
+compare calls --rounds 5000

@@ -1,6 +1,8 @@
 #!/usr/bin/env bash
 # Builds the oracle and runs one of its programs:
-#   oracle/run.sh self-test | lists | leaves [--every N] [--offset M] [--basis N]
+#   oracle/run.sh self-test | lists
+#   oracle/run.sh leaves [--every N] [--offset M] [--basis N]
+#   oracle/run.sh calls [--rounds N] [--seed S] [--large]
 # KAN_RUST: folder of the ported Rust; ESTIMATOR_LIB: folder of the proved code's archives.
 # Status 3: something that is needed is not here and can't be installed.
 set -euo pipefail
@@ -42,10 +44,15 @@ install_missing() {
 
 program=${1:-}
 archives=${ESTIMATOR_LIB:-target/staticlib}
+need_archive() {
+    [ -f "$archives/lib$1.a" ] || stop "no $archives/lib$1.a: \`rt staticlib $1\` makes it"
+}
+
 case $program in
     self-test | lists) ;;
-    leaves) [ -f "$archives/libleaves.a" ] || stop "no $archives/libleaves.a: \`rt staticlib leaves\` makes it" ;;
-    *) stop "name a program: self-test, lists or leaves" 2 ;;
+    leaves) need_archive leaves ;;
+    calls) need_archive estimator ;;
+    *) stop "name a program: self-test, lists, leaves or calls" 2 ;;
 esac
 shift
 

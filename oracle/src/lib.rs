@@ -5,11 +5,17 @@
 
 pub mod arguments;
 pub mod bits;
+pub mod calls;
+pub mod drawn_calls;
 pub mod draws;
 pub mod exponential;
 pub mod grids;
 pub mod inputs;
+pub mod lent;
+pub mod models;
 pub mod ported;
+pub mod reading;
+pub mod settled_calls;
 pub mod tally;
 mod whole;
 

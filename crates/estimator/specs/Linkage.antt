@@ -61,7 +61,8 @@ abbrev pub meanOr : Loss → Float → Float
 meanOr (Mean x) old = x
 meanOr (Not r) old = old
 
-pub record LossLinked (ws : List ℕ) (g : Grid) (ps xs ts a b : List Float) (l : Float) (r : ℕ) (a′ b′ : List Float) (l′ : Float) (c′ : ℕ) : Type 0 where
+pub record LossLinked (ws : List ℕ) (g : Grid) (ps xs ts a b : List Float) (l : Float) (r : ℕ) (a′ b′ : List Float) (l′ : Float)
+    (c′ : ℕ) : Type 0 where
   pub number : r ≡ lossNumber (lost ws g ps xs ts a b)
   pub loss : l′ ≡ meanOr (lost ws g ps xs ts a b) l
   pub carried : c′ ≡ lossCarried (lost ws g ps xs ts a b)

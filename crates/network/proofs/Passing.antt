@@ -132,13 +132,15 @@ module _ (B : Basis) (ws : List ℕ) (g : Grid) (ps xs a b : List Float) where
     none zero os e = absurd (e refl)
     none (suc n) os e = refl
 
-    pub passed-through : (n : ℕ) → n ≡ outWidth ws → r ≡ 0 → Swept (length ws - 1) n (s .widest) a₁ b₁ a₂ b₂ → Forwarded B ws g ps xs a b r n a₂ b₂
+    pub passed-through : (n : ℕ) → n ≡ outWidth ws → r ≡ 0 → Swept (length ws - 1) n (s .widest) a₁ b₁ a₂ b₂
+        → Forwarded B ws g ps xs a b r n a₂ b₂
     unfolding passOutputs
     passed-through n e z t =
         let k = equipped-sound ws g (length ps) (length a) (length b) s ok in
         let os = outputsOf B ps ws xs in
         finish n os (rw e (k .size .within (length ws - 1) (last (length ws) (k .size .some))))
-        (given (passRefusal B ps ws xs) os (sym (done .refusal) ∙ z)) (outputs-length B ps ws xs (k .size .some) ∙ sym e) (rw e (done .outputs z)) t
+        (given (passRefusal B ps ws xs) os (sym (done .refusal) ∙ z)) (outputs-length B ps ws xs (k .size .some) ∙ sym e)
+        (rw e (done .outputs z)) t
       where
         last : (n : ℕ) → 2 ≤ n → n - 1 < n
         last n h = omega arith
@@ -146,4 +148,5 @@ module _ (B : Basis) (ws : List ℕ) (g : Grid) (ps xs a b : List Float) where
     pub held-back : (r ≡ 0 → ⊥) → Swept (length ws - 1) 0 (s .widest) a₁ b₁ a₂ b₂ → Forwarded B ws g ps xs a b r 0 a₂ b₂
     unfolding passOutputs
     held-back z t =
-        finish 0 [] (omega arith) (none (passRefusal B ps ws xs) (outputsOf B ps ws xs) (λ (q : passRefusal B ps ws xs ≡ 0). z (done .refusal ∙ q))) refl refl t
+        finish 0 [] (omega arith)
+        (none (passRefusal B ps ws xs) (outputsOf B ps ws xs) (λ (q : passRefusal B ps ws xs ≡ 0). z (done .refusal ∙ q))) refl refl t

@@ -14,10 +14,14 @@ enum-known-checked-2 : tie.Need-enum-known-checked-2
 enum-known-checked-2 c = search needs
 
 returns : tie.Need-returns
-returns c = let e = sym (c .before .before .before .check .ensures) ∙ c .before .checked .given .1 in record { number = rw e; parameters = rw e; carried = rw e }
+returns c =
+    let at-check = c .before .before .before in
+    let e = sym (at-check .check .ensures) ∙ c .before .checked .given .1 in record { number = rw e; parameters = rw e; carried = rw e }
 
 returns-2 : tie.Need-returns-2
-returns-2 c = let e = sym (c .before .before .before .check .ensures) ∙ c .before .checked2 .given .1 in record { number = rw e; parameters = rw e; carried = rw e }
+returns-2 c =
+    let at-check = c .before .before .before in
+    let e = sym (at-check .check .ensures) ∙ c .before .checked2 .given .1 in record { number = rw e; parameters = rw e; carried = rw e }
 
 pub kan-check-spec : {M : Type 1} → statement M
 kan-check-spec =

@@ -21,7 +21,8 @@ same-length-2 c = search needs
 
 returns : tie.Need-returns
 returns c =
-    let d = c .before .before .before .before .before .before .before .mse-loss .ensures in
+    let at-mse-loss = c .before .before .before .before .before .before .before in
+    let d = at-mse-loss .mse-loss .ensures in
     let e = sym (d .answer) ∙ c .before .answer .given .1 in
     record { number = rw e; loss = rw e; carried = rw e; first = d .first; second = d .second }
 
@@ -33,7 +34,8 @@ same-length-4 c = search needs
 
 returns-2 : tie.Need-returns-2
 returns-2 c =
-    let d = c .before .before .before .before .before .before .before .mse-loss .ensures in
+    let at-mse-loss = c .before .before .before .before .before .before .before in
+    let d = at-mse-loss .mse-loss .ensures in
     let e = sym (d .answer) ∙ c .before .answer2 .given .1 in
     record { number = rw e; loss = rw e; carried = rw e; first = d .first; second = d .second }
 

@@ -24,7 +24,8 @@ same-length-3 c = search needs
 
 returns : tie.Need-returns
 returns c =
-    let d = c .before .before .before .before .before .before .before .before .predict-batch .ensures in
+    let at-predict-batch = c .before .before .before .before .before .before .before .before in
+    let d = at-predict-batch .predict-batch .ensures in
     let e = sym (d .answer) ∙ c .enum-told .given .1 in
     record { number = rw e; carried = rw e; outputs = d .outputs; first = d .first; second = d .second }
 
@@ -39,7 +40,8 @@ same-length-6 c = search needs
 
 returns-2 : tie.Need-returns-2
 returns-2 c =
-    let d = c .before .before .before .before .before .before .before .before .before .predict-batch .ensures in
+    let at-predict-batch = c .before .before .before .before .before .before .before .before .before in
+    let d = at-predict-batch .predict-batch .ensures in
     let e = sym (d .answer) ∙ c .before .outcome .given .1 in
     record { number = rw e; carried = rw e; outputs = d .outputs; first = d .first; second = d .second }
 

@@ -49,7 +49,8 @@ nearest-pattern-requires c κs =
 
 float-from-bits-result : tie.Need-float-from-bits-result
 float-from-bits-result c =
-    let a = c .before .before .before .args in
+    let start = c .before .before .before in
+    let a = start .args in
     read-back binary32 false (c .before .before .scaled-power .result * c .before .series .result * 2 ^ (a .q / 2 ^ 56 + a .bias))
     (2 ^ 213) (c .nearest-pattern .result) (c .nearest-pattern .ensures) .0
 

@@ -22,9 +22,11 @@ returns c = rw (← c .before .before .before .check .ensures, c .before .checke
 returns-2 : tie.Need-returns-2
 unfolding admitted unless
 returns-2 c =
+    let at-checked2 = c .before .before .before in
+    let at-check = at-checked2 .before .before in
     rw (
-      ← c .before .before .before .before .before .check .ensures,
-      c .before .before .before .checked2 .given .1,
+      ← at-check .check .ensures,
+      at-checked2 .checked2 .given .1,
       eq-eqb _ _
           (c .if1 .taken),
     )
@@ -32,9 +34,11 @@ returns-2 c =
 returns-3 : tie.Need-returns-3
 unfolding admitted unless
 returns-3 c =
+    let at-checked2 = c .before .before .before in
+    let at-check = at-checked2 .before .before in
     rw (
-      ← c .before .before .before .before .before .check .ensures,
-      c .before .before .before .checked2 .given .1,
+      ← at-check .check .ensures,
+      at-checked2 .checked2 .given .1,
       ne-eqb _ _
           (c .if1 .left),
     )

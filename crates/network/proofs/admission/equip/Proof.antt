@@ -18,7 +18,9 @@ enum-known-checked-2 c = search needs
 returns : tie.Need-returns
 unfolding equipped unless
 returns c =
-    rw (← c .before .before .before .before .before .before .before .admit .ensures, c .before .before .before .before .before .checked2 .given .1, le-leb _ _ (c .before .before .if1 .taken), le-leb _ _ (c .if2 .taken))
+    let at-checked2 = c .before .before .before .before .before in
+    let at-admit = at-checked2 .before .before in
+    rw (← at-admit .admit .ensures, at-checked2 .checked2 .given .1, le-leb _ _ (c .before .before .if1 .taken), le-leb _ _ (c .if2 .taken))
 
 returns-2 : tie.Need-returns-2
 unfolding equipped unless
@@ -27,14 +29,18 @@ returns-2 c = rw (← c .before .before .before .admit .ensures, c .before .chec
 returns-3 : tie.Need-returns-3
 unfolding equipped unless
 returns-3 c =
-    rw (← c .before .before .before .before .before .before .before .admit .ensures, c .before .before .before .before .before .checked2 .given .1, le-leb _ _ (c .before .before .if1 .taken), lt-leb _ _ (c .if2 .left))
+    let at-checked2 = c .before .before .before .before .before in
+    let at-admit = at-checked2 .before .before in
+    rw (← at-admit .admit .ensures, at-checked2 .checked2 .given .1, le-leb _ _ (c .before .before .if1 .taken), lt-leb _ _ (c .if2 .left))
 
 returns-4 : tie.Need-returns-4
 unfolding equipped unless
 returns-4 c =
+    let at-checked2 = c .before .before .before in
+    let at-admit = at-checked2 .before .before in
     rw (
-      ← c .before .before .before .before .before .admit .ensures,
-      c .before .before .before .checked2 .given .1,
+      ← at-admit .admit .ensures,
+      at-checked2 .checked2 .given .1,
       lt-leb _ _
           (c .if1 .left),
     )

@@ -18,7 +18,11 @@ same-length-2 : tie.Need-same-length-2
 same-length-2 c = search needs
 
 returns : tie.Need-returns
-returns c = ran-passed _ _ _ _ _ _ _ _ _ (sym (c .before .before .before .before .before .before .before .before .all-finite .ensures) ∙ c .before .before .before .before .before .before .before .if1 .taken) (c .before .before .before .before .run-row .ensures)
+returns c =
+    let at-run-row = c .before .before .before .before in
+    let at-if1 = at-run-row .before .before .before in
+    let at-all-finite = at-if1 .before in
+    ran-passed _ _ _ _ _ _ _ _ _ (sym (at-all-finite .all-finite .ensures) ∙ at-if1 .if1 .taken) (at-run-row .run-row .ensures)
 
 returns-2 : tie.Need-returns-2
 returns-2 c = wild-passed _ _ _ _ _ _ (sym (c .before .all-finite .ensures) ∙ c .if1 .left)

@@ -42,9 +42,11 @@ enum-known-step-2 c = search needs
 
 returns : tie.Need-returns Inv-loop μ-loop
 returns c =
+    let at-add-error = c .before .before .before in
+    let at-loop = at-add-error .before .before .before .before in
     sym (errors-stay _ _ _ _ _ _ (omega arith)
-    (errors-more _ _ _ _ _ (c .before .before .before .before .before .before .before .loop .inv .1)
-    ∙ sym (c .before .before .before .add-error .ensures) ∙ c .before .step2 .given .1))
+    (errors-more _ _ _ _ _ (at-loop .loop .inv .1)
+    ∙ sym (at-add-error .add-error .ensures) ∙ c .before .step2 .given .1))
 
 add-i : tie.Need-add-i Inv-loop μ-loop
 add-i c = omega arith
@@ -53,11 +55,13 @@ loop-less : tie.Need-loop-less Inv-loop μ-loop
 loop-less c = omega arith
 
 loop-again : tie.Need-loop-again Inv-loop μ-loop
-loop-again c = (
-  omega arith,
-  errors-more _ _ _ _ _ (c .before .before .before .before .before .before .before .loop .inv .1)
-      ∙ sym (c .before .before .before .add-error .ensures) ∙ c .before .step .given .1,
-)
+loop-again c =
+    let at-add-error = c .before .before .before in
+    let at-loop = at-add-error .before .before .before .before in (
+      omega arith,
+      errors-more _ _ _ _ _ (at-loop .loop .inv .1)
+          ∙ sym (at-add-error .add-error .ensures) ∙ c .before .step .given .1,
+    )
 
 returns-2 : tie.Need-returns-2 Inv-loop μ-loop
 returns-2 c = sym (c .before .loop .inv .1) ∙ ap (errorsTo _ _ _) (omega arith)

@@ -34,7 +34,8 @@ shared-slice-read-batch-fault c = search needs
 
 batch-fault-requires : tie.Need-batch-fault-requires
 batch-fault-requires c κs =
-    let p = c .before .before .before .before .before .before .before .before .before .before .pre in
+    let start = c .before .before .before .before .before .before .before .before .before .before in
+    let p = start .pre in
     (p .positive 0 (omega (arith, p .some)), p .positive _ (omega (arith, p .some)))
 
 refused-requires-2 : tie.Need-refused-requires-2
@@ -42,25 +43,41 @@ refused-requires-2 c κs = search needs
 
 returns-2 : tie.Need-returns-2
 returns-2 c =
+    let at-if1 = c .before .before .before .before .before in
+    let at-all-finite = at-if1 .before in
     loss-fault _ _ _ _ _ _ _ _ _ (c .refused2 .ensures)
-    (sym (c .before .before .before .before .before .before .all-finite .ensures)
-    ∙ not-false _ (c .before .before .before .before .before .if1 .left)) (c .before .before .batch-fault .ensures) (c .before .if2 .taken)
+    (sym (at-all-finite .all-finite .ensures)
+    ∙ not-false _ (at-if1 .if1 .left)) (c .before .before .batch-fault .ensures) (c .before .if2 .taken)
 
 rows-in-requires : tie.Need-rows-in-requires
 rows-in-requires c κs =
-    let p = c .before .before .before .before .before .before .before .before .before .before .before .before .pre in p .positive 0
+    let start = c .before .before .before .before .before .before .before .before .before .before .before .before in
+    let p = start .pre in p .positive 0
     (omega (arith, p .some))
 
 sum-rows-requires : tie.Need-sum-rows-requires
 sum-rows-requires c κs =
-    let p = c .before .before .before .before .before .before .before .before .before .before .before .before .before .before .before .pre in record { fits = p; batch = (batch-sound _ _ _ _ (p .positive 0 (omega (arith, p .some))) (p .positive _ (omega (arith, p .some))) (sym (c .before .before .before .before .batch-fault .ensures) ∙ c .before .before .before .if2 .left)); count = c .before .before .rows-in .ensures }
+    let at-if2 = c .before .before .before in
+    let at-batch-fault = at-if2 .before in
+    let start = at-batch-fault .before .before .before .before .before .before .before .before .before .before .before in
+    let p = start .pre in record {
+      fits = p;
+      batch = (batch-sound _ _ _ _ (p .positive 0 (omega (arith, p .some))) (p .positive _ (omega (arith, p .some)))
+          (sym (at-batch-fault .batch-fault .ensures) ∙ at-if2 .if2 .left));
+      count = c .before .before .rows-in .ensures;
+    }
 
 enum-known-sum : tie.Need-enum-known-sum
 enum-known-sum c = search needs
 
 int-to-float-t27 : tie.Need-int-to-float-t27
 int-to-float-t27 c =
-    let p = c .before .before .before .before .before .before .before .before .before .before .before .before .before .before .before .before .before .before .before .before .before .before .before .before .pre in exact _ ((batch-sound _ _ _ _ (p .positive 0 (omega (arith, p .some))) (p .positive _ (omega (arith, p .some))) (sym (c .before .before .before .before .before .before .before .before .before .before .before .before .before .batch-fault .ensures) ∙ c .before .before .before .before .before .before .before .before .before .before .before .before .if2 .left)) .few)
+    let at-if2 = c .before .before .before .before .before .before .before .before .before .before .before .before in
+    let at-batch-fault = at-if2 .before in
+    let start = at-batch-fault .before .before .before .before .before .before .before .before .before .before .before in
+    let p = start .pre in exact _
+    ((batch-sound _ _ _ _ (p .positive 0 (omega (arith, p .some))) (p .positive _ (omega (arith, p .some)))
+    (sym (at-batch-fault .batch-fault .ensures) ∙ at-if2 .if2 .left)) .few)
 
 enum-known-sum-2 : tie.Need-enum-known-sum-2
 enum-known-sum-2 c = search needs
@@ -76,7 +93,18 @@ same-length-2 c = search needs
 
 returns-3 : tie.Need-returns-3
 returns-3 c =
-    let p = c .before .before .before .before .before .before .before .before .before .before .before .before .before .before .before .before .before .before .before .before .before .before .before .before .pre in loss-mean _ _ _ _ _ _ _ _ _ _ (sym (c .before .before .before .before .before .before .before .before .before .before .before .before .before .before .before .before .before .all-finite .ensures) ∙ not-false _ (c .before .before .before .before .before .before .before .before .before .before .before .before .before .before .before .before .if1 .left)) (sym (c .before .before .before .before .before .before .before .before .before .before .before .before .before .batch-fault .ensures) ∙ c .before .before .before .before .before .before .before .before .before .before .before .before .if2 .left) (c .before .before .before .before .before .before .before .before .before .before .before .rows-in .ensures) _ (batch-sound _ _ _ _ (p .positive 0 (omega (arith, p .some))) (p .positive _ (omega (arith, p .some))) (sym (c .before .before .before .before .before .before .before .before .before .before .before .before .before .batch-fault .ensures) ∙ c .before .before .before .before .before .before .before .before .before .before .before .before .if2 .left)) (rw (c .before .before .sum .given .1) at (c .before .before .before .before .before .before .before .before .sum-rows .ensures))
+    let at-sum-rows = c .before .before .before .before .before .before .before .before in
+    let at-rows-in = at-sum-rows .before .before .before in
+    let at-if2 = at-rows-in .before in
+    let at-batch-fault = at-if2 .before in
+    let at-if1 = at-batch-fault .before .before .before in
+    let at-all-finite = at-if1 .before in
+    let start = at-all-finite .before .before .before .before .before .before .before in
+    let p = start .pre in loss-mean _ _ _ _ _ _ _ _ _ _ (sym (at-all-finite .all-finite .ensures) ∙ not-false _ (at-if1 .if1 .left))
+    (sym (at-batch-fault .batch-fault .ensures) ∙ at-if2 .if2 .left) (at-rows-in .rows-in .ensures) _
+    (batch-sound _ _ _ _ (p .positive 0 (omega (arith, p .some))) (p .positive _ (omega (arith, p .some)))
+    (sym (at-batch-fault .batch-fault .ensures) ∙ at-if2 .if2 .left))
+    (rw (c .before .before .sum .given .1) at (at-sum-rows .sum-rows .ensures))
 
 same-length-3 : tie.Need-same-length-3
 same-length-3 c = search needs
@@ -86,8 +114,16 @@ same-length-4 c = search needs
 
 returns-4 : tie.Need-returns-4
 returns-4 c =
+    let at-sum-rows = c .before .before .before .before .before .before .before .before in
+    let at-rows-in = at-sum-rows .before .before .before in
+    let at-if2 = at-rows-in .before in
+    let at-batch-fault = at-if2 .before in
+    let at-if1 = at-batch-fault .before .before .before in
+    let at-all-finite = at-if1 .before in
     loss-stopped _ _ _ _ _ _ _ _ _ _
-    (sym (c .before .before .before .before .before .before .before .before .before .before .before .before .before .before .before .before .before .all-finite .ensures) ∙ not-false _ (c .before .before .before .before .before .before .before .before .before .before .before .before .before .before .before .before .if1 .left)) (sym (c .before .before .before .before .before .before .before .before .before .before .before .before .before .batch-fault .ensures) ∙ c .before .before .before .before .before .before .before .before .before .before .before .before .if2 .left) (c .before .before .before .before .before .before .before .before .before .before .before .rows-in .ensures) _ _ (c .refused3 .ensures) (rw (c .before .before .sum2 .given .1) at (c .before .before .before .before .before .before .before .before .sum-rows .ensures))
+    (sym (at-all-finite .all-finite .ensures) ∙ not-false _ (at-if1 .if1 .left))
+    (sym (at-batch-fault .batch-fault .ensures) ∙ at-if2 .if2 .left) (at-rows-in .rows-in .ensures) _ _ (c .refused3 .ensures)
+    (rw (c .before .before .sum2 .given .1) at (at-sum-rows .sum-rows .ensures))
 
 pub loss-sound-spec : {M : Type 1} → statement M
 loss-sound-spec =

@@ -18,26 +18,34 @@ enum-known-checked-2 c = search needs
 
 loss-sound-requires : tie.Need-loss-sound-requires
 loss-sound-requires c κs =
+    let at-checked2 = c .before .before .before in
+    let at-equip = at-checked2 .before .before in
     fitted _ _ _ _ _ _ (equipped-sound _ _ _ _ _ _
-    (sym (c .before .before .before .before .before .equip .ensures) ∙ c .before .before .before .checked2 .given .1))
+    (sym (at-equip .equip .ensures) ∙ at-checked2 .checked2 .given .1))
 
 clear-requires : tie.Need-clear-requires
 clear-requires c κs =
+    let at-loss-sound = c .before .before .before .before .before in
+    let at-checked2 = at-loss-sound .before .before .before .before in
+    let at-equip = at-checked2 .before .before in
     omega (
       arith,
       (equipped-sound _ _ _ _ _ _
-          (sym (c .before .before .before .before .before .before .before .before .before .before .before .equip .ensures)
-          ∙ c .before .before .before .before .before .before .before .before .before .checked2 .given .1)) .first,
-      c .before .before .before .before .before .loss-sound .kept .1 .1 .1 .1 .1 .0,
+          (sym (at-equip .equip .ensures)
+          ∙ at-checked2 .checked2 .given .1)) .first,
+      at-loss-sound .loss-sound .kept .1 .1 .1 .1 .1 .0,
     )
 
 clear-requires-2 : tie.Need-clear-requires-2
 clear-requires-2 c κs =
+    let at-loss-sound = c .before .before .before .before .before .before .before .before .before in
+    let at-checked2 = at-loss-sound .before .before .before .before in
+    let at-equip = at-checked2 .before .before in
     omega (
       arith,
       (equipped-sound _ _ _ _ _ _
-          (sym (c .before .before .before .before .before .before .before .before .before .before .before .before .before .before .before .equip .ensures) ∙ c .before .before .before .before .before .before .before .before .before .before .before .before .before .checked2 .given .1)) .second,
-      c .before .before .before .before .before .before .before .before .before .loss-sound .kept .1 .1 .1 .1 .1 .1 .0,
+          (sym (at-equip .equip .ensures) ∙ at-checked2 .checked2 .given .1)) .second,
+      at-loss-sound .loss-sound .kept .1 .1 .1 .1 .1 .1 .0,
     )
 
 returns : tie.Need-returns
@@ -51,8 +59,13 @@ same-length-2 c = search needs
 
 returns-2 : tie.Need-returns-2
 returns-2 c =
+    let at-clear = c .before .before .before .before .before .before in
+    let at-loss-sound = at-clear .before .before .before .before .before .before in
+    let at-checked2 = at-loss-sound .before .before .before .before in
+    let at-equip = at-checked2 .before .before in
     loss-done _ _ _ _ _ _ _ _ _ _ _ _ _ _
-    (sym (c .before .before .before .before .before .before .before .before .before .before .before .before .before .before .before .before .before .before .equip .ensures) ∙ c .before .before .before .before .before .before .before .before .before .before .before .before .before .before .before .before .checked2 .given .1) (c .before .before .before .before .before .before .before .before .before .before .before .before .loss-sound .ensures) (c .before .before .before .before .before .before .clear .ensures) (c .before .before .clear2 .ensures)
+    (sym (at-equip .equip .ensures) ∙ at-checked2 .checked2 .given .1) (at-loss-sound .loss-sound .ensures) (at-clear .clear .ensures)
+    (c .before .before .clear2 .ensures)
 
 pub mse-loss-spec : {M : Type 1} → statement M
 mse-loss-spec =

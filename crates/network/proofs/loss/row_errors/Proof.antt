@@ -32,13 +32,15 @@ add-errors-requires-2 c κs = search needs
 
 returns : tie.Need-returns
 returns c =
+    let start = c .before .before .before .before .before .before in
     let e = eq-eqb _ _ (c .before .before .if1 .taken) in rw e
-    (c .add-errors .ensures ∙ front-errors _ _ _ _ (c .before .before .before .before .before .before .pre .1))
+    (c .add-errors .ensures ∙ front-errors _ _ _ _ (start .pre .1))
 
 returns-2 : tie.Need-returns-2
 returns-2 c =
+    let start = c .before .before .before .before .before .before in
     let e = ne-eqb _ _ (c .before .before .if1 .left) in rw e
-    (c .add-errors2 .ensures ∙ front-errors _ _ _ _ (c .before .before .before .before .before .before .pre .0))
+    (c .add-errors2 .ensures ∙ front-errors _ _ _ _ (start .pre .0))
 
 pub row-errors-spec : {M : Type 1} → statement M
 row-errors-spec =

@@ -23,80 +23,108 @@ abbrev μ-loop : tie.MeasureT-loop
 μ-loop grid widths model inputs targets rows first₀ second₀ layers w v sum₀ r₀ first second sum r = rows - r
 
 sub-layers : tie.Need-sub-layers Inv-loop μ-loop
-sub-layers c = omega (arith, c .before .before .before .before .before .before .pre .fits .some)
+sub-layers c =
+    let start = c .before .before .before .before .before .before in
+    omega (arith, start .pre .fits .some)
 
 shared-slice-read-w : tie.Need-shared-slice-read-w Inv-loop μ-loop
-shared-slice-read-w c = omega (arith, c .before .before .before .before .before .before .before .pre .fits .some)
+shared-slice-read-w c =
+    let start = c .before .before .before .before .before .before .before in
+    omega (arith, start .pre .fits .some)
 
 mul-v : tie.Need-mul-v Inv-loop μ-loop
-mul-v c = omega (arith, c .before .before .before .before .before .before .before .pre .fits .some)
+mul-v c =
+    let start = c .before .before .before .before .before .before .before in
+    omega (arith, start .pre .fits .some)
 
 shared-slice-read-v : tie.Need-shared-slice-read-v Inv-loop μ-loop
-shared-slice-read-v c = omega (arith, c .before .before .before .before .before .before .before .before .pre .fits .some)
+shared-slice-read-v c =
+    let start = c .before .before .before .before .before .before .before .before in
+    omega (arith, start .pre .fits .some)
 
 loop-holds : tie.Need-loop-holds Inv-loop μ-loop
 loop-holds c = (omega arith, none-added _ _ _ _ _ _ _)
 
 row-requires : tie.Need-row-requires Inv-loop μ-loop
 row-requires c κs =
-    let p = c .before .before .before .before .before .before .before .before .before .before .pre in
+    let start = c .before .before .before .before .before .before .before .before .before .before in
+    let p = start .pre in
     le-of-lt (row-begins _ _ _ (p .fits .positive 0 (omega (arith, p .fits .some)))
-    (rw (c .before .before .before .before .before .before .before .before .before .before .pre .count) at (c .loop-test .taken)))
+    (rw (start .pre .count) at (c .loop-test .taken)))
 
 run-row-requires : tie.Need-run-row-requires Inv-loop μ-loop
 run-row-requires c κs =
-    let g = c .before .before .before .before .loop .inv .1 in fits-moved _ _ _ _ _ _ _
-    (c .before .before .before .before .before .before .before .before .before .before .before .before .before .pre .fits) (g .sizeA)
+    let at-loop = c .before .before .before .before in
+    let start = at-loop .before .before .before .before .before .before .before .before .before in
+    let g = at-loop .loop .inv .1 in fits-moved _ _ _ _ _ _ _
+    (start .pre .fits) (g .sizeA)
     (g .sizeB)
 
 same-length : tie.Need-same-length Inv-loop μ-loop
 same-length c =
-    c .before .before .before .before .before .run-row .kept .1 .1 .1 .1 .0
-    ∙ c .before .before .before .before .before .before .before .before .before .before .loop .inv .1 .sizeA
+    let at-run-row = c .before .before .before .before .before in
+    let at-loop = at-run-row .before .before .before .before .before in
+    at-run-row .run-row .kept .1 .1 .1 .1 .0
+    ∙ at-loop .loop .inv .1 .sizeA
 
 same-length-2 : tie.Need-same-length-2 Inv-loop μ-loop
 same-length-2 c =
-    c .before .before .before .before .before .run-row .kept .1 .1 .1 .1 .1 .0
-    ∙ c .before .before .before .before .before .before .before .before .before .before .loop .inv .1 .sizeB
+    let at-run-row = c .before .before .before .before .before in
+    let at-loop = at-run-row .before .before .before .before .before in
+    at-run-row .run-row .kept .1 .1 .1 .1 .1 .0
+    ∙ at-loop .loop .inv .1 .sizeB
 
 returns : tie.Need-returns Inv-loop μ-loop
 returns c =
+    let at-run-row = c .before .before .before .before .before in
+    let at-row = at-run-row .before .before .before in
+    let at-loop-test = at-row .before in
+    let at-loop = at-loop-test .before in
+    let start = at-loop .before .before .before .before .before .before .before .before .before in
     sum-stops _ _ _ _ _ _ _ _ _ _ _ _ _ _ _ _
-    (c .before .before .before .before .before .before .before .before .before .loop-test .taken)
-    (c .before .before .before .before .before .before .before .before .before .before .loop .inv .1)
-    (rw (c .before .before .before .before .before .before .before .before .row .ensures) at
-    (c .before .before .before .before .before .run-row .ensures))
+    (at-loop-test .loop-test .taken)
+    (at-loop .loop .inv .1)
+    (rw (at-row .row .ensures) at
+    (at-run-row .run-row .ensures))
     (row-stops _ _ _ _ _ _ _ _ _ _ _ _
-    (c .before .before .before .before .before .before .before .before .before .before .loop .inv .1 .value)
-    (c .before .before .before .before .before .before .before .before .before .before .before .before .before .before .before .before .before .before .before .pre .batch .inputs _ (rw (c .before .before .before .before .before .before .before .before .before .before .before .before .before .before .before .before .before .before .before .pre .count) at (c .before .before .before .before .before .before .before .before .before .loop-test .taken))) (rw (c .before .before .before .before .before .before .before .before .row .ensures) at (c .before .before .before .before .before .run-row .ensures)) (c .if1 .taken))
+    (at-loop .loop .inv .1 .value)
+    (start .pre .batch .inputs _ (rw (start .pre .count) at (at-loop-test .loop-test .taken)))
+    (rw (at-row .row .ensures) at (at-run-row .run-row .ensures)) (c .if1 .taken))
 
 row-requires-2 : tie.Need-row-requires-2 Inv-loop μ-loop
 row-requires-2 c κs =
-    let p = c .before .before .before .before .before .before .before .before .before .before .before .before .before .before .before .before .before .before .before .before .before .pre in
+    let at-loop-test = c .before .before .before .before .before .before .before .before .before .before .before in
+    let start = at-loop-test .before .before .before .before .before .before .before .before .before .before in
+    let p = start .pre in
     le-of-lt (row-begins _ _ _ (p .fits .positive _ (last _ (p .fits .some)))
-    (rw (c .before .before .before .before .before .before .before .before .before .before .before .before .before .before .before .before .before .before .before .before .before .pre .batch .sameRows) at (rw (c .before .before .before .before .before .before .before .before .before .before .before .before .before .before .before .before .before .before .before .before .before .pre .count) at (c .before .before .before .before .before .before .before .before .before .before .before .loop-test .taken))))
+    (rw (start .pre .batch .sameRows) at (rw (start .pre .count) at (at-loop-test .loop-test .taken))))
 
 row-errors-requires : tie.Need-row-errors-requires Inv-loop μ-loop
 row-errors-requires c κs =
-    let p = c .before .before .before .before .before .before .before .before .before .before .before .before .before .before .before .before .before .before .before .before .before .before .pre .fits in
-    let g = c .before .before .before .before .before .before .before .before .before .before .before .before .before .loop .inv .1 in (
+    let at-run-row = c .before .before .before .before .before .before .before .before in
+    let at-loop-test = at-run-row .before .before .before .before in
+    let at-loop = at-loop-test .before in
+    let start = at-loop .before .before .before .before .before .before .before .before .before in
+    let p = start .pre .fits in
+    let g = at-loop .loop .inv .1 in (
       omega (
         arith,
         p .first _
             (last _ (p .some)),
         g .sizeA,
-        c .before .before .before .before .before .before .before .before .run-row .kept .1 .1 .1 .1 .0,
+        at-run-row .run-row .kept .1 .1 .1 .1 .0,
       ),
       omega (
         arith,
         p .second _
             (last _ (p .some)),
         g .sizeB,
-        c .before .before .before .before .before .before .before .before .run-row .kept .1 .1 .1 .1 .1 .0,
+        at-run-row .run-row .kept .1 .1 .1 .1 .1 .0,
       ),
       le-of-eq (sym (ap length (c .row2 .ensures)
           ∙ wide-row _ 15 17 _
-          (c .before .before .before .before .before .before .before .before .before .before .before .before .before .before .before .before .before .before .before .before .before .before .pre .batch .targets _ (rw (c .before .before .before .before .before .before .before .before .before .before .before .before .before .before .before .before .before .before .before .before .before .before .pre .batch .sameRows) at (rw (c .before .before .before .before .before .before .before .before .before .before .before .before .before .before .before .before .before .before .before .before .before .before .pre .count) at (c .before .before .before .before .before .before .before .before .before .before .before .before .loop-test .taken)))))),
+          (start .pre .batch .targets _
+          (rw (start .pre .batch .sameRows) at (rw (start .pre .count) at (at-loop-test .loop-test .taken)))))),
     )
 
 enum-known-step : tie.Need-enum-known-step Inv-loop μ-loop
@@ -107,33 +135,63 @@ enum-known-step-2 c = search needs
 
 same-length-3 : tie.Need-same-length-3 Inv-loop μ-loop
 same-length-3 c =
-    c .before .before .before .before .before .before .before .before .before .before .before .before .run-row .kept .1 .1 .1 .1 .0
-    ∙ c .before .before .before .before .before .before .before .before .before .before .before .before .before .before .before .before .before .loop .inv .1 .sizeA
+    let at-run-row = c .before .before .before .before .before .before .before .before .before .before .before .before in
+    let at-loop = at-run-row .before .before .before .before .before in
+    at-run-row .run-row .kept .1 .1 .1 .1 .0
+    ∙ at-loop .loop .inv .1 .sizeA
 
 same-length-4 : tie.Need-same-length-4 Inv-loop μ-loop
 same-length-4 c =
-    c .before .before .before .before .before .before .before .before .before .before .before .before .run-row .kept .1 .1 .1 .1 .1 .0
-    ∙ c .before .before .before .before .before .before .before .before .before .before .before .before .before .before .before .before .before .loop .inv .1 .sizeB
+    let at-run-row = c .before .before .before .before .before .before .before .before .before .before .before .before in
+    let at-loop = at-run-row .before .before .before .before .before in
+    at-run-row .run-row .kept .1 .1 .1 .1 .1 .0
+    ∙ at-loop .loop .inv .1 .sizeB
 
 returns-2 : tie.Need-returns-2 Inv-loop μ-loop
 returns-2 c =
+    let at-row-errors = c .before .before .before in
+    let at-row2 = at-row-errors .before in
+    let at-if1 = at-row2 .before .before .before in
+    let at-run-row = at-if1 .before .before .before .before .before in
+    let at-row = at-run-row .before .before .before in
+    let at-loop-test = at-row .before in
+    let at-loop = at-loop-test .before in
+    let start = at-loop .before .before .before .before .before .before .before .before .before in
     sum-stops _ _ _ _ _ _ _ _ _ _ _ _ _ _ _ _
-    (c .before .before .before .before .before .before .before .before .before .before .before .before .before .before .before .before .loop-test .taken) (c .before .before .before .before .before .before .before .before .before .before .before .before .before .before .before .before .before .loop .inv .1) (rw (c .before .before .before .before .before .before .before .before .before .before .before .before .before .before .before .row .ensures) at (c .before .before .before .before .before .before .before .before .before .before .before .before .run-row .ensures)) (row-adds _ _ _ _ _ _ _ _ _ _ _ _ (c .before .before .before .before .before .before .before .before .before .before .before .before .before .before .before .before .before .loop .inv .1 .value) (c .before .before .before .before .before .before .before .before .before .before .before .before .before .before .before .before .before .before .before .before .before .before .before .before .before .before .pre .batch .inputs _ (rw (c .before .before .before .before .before .before .before .before .before .before .before .before .before .before .before .before .before .before .before .before .before .before .before .before .before .before .pre .count) at (c .before .before .before .before .before .before .before .before .before .before .before .before .before .before .before .before .loop-test .taken))) (rw (c .before .before .before .before .before .before .before .before .before .before .before .before .before .before .before .row .ensures) at (c .before .before .before .before .before .before .before .before .before .before .before .before .run-row .ensures)) (c .before .before .before .before .before .before .before .if1 .left) ∙ sym (rw (c .before .before .before .before .row2 .ensures) at (c .before .before .before .row-errors .ensures)) ∙ c .before .step2 .given .1)
+    (at-loop-test .loop-test .taken) (at-loop .loop .inv .1) (rw (at-row .row .ensures) at (at-run-row .run-row .ensures))
+    (row-adds _ _ _ _ _ _ _ _ _ _ _ _ (at-loop .loop .inv .1 .value)
+    (start .pre .batch .inputs _ (rw (start .pre .count) at (at-loop-test .loop-test .taken)))
+    (rw (at-row .row .ensures) at (at-run-row .run-row .ensures)) (at-if1 .if1 .left)
+    ∙ sym (rw (at-row2 .row2 .ensures) at (at-row-errors .row-errors .ensures)) ∙ c .before .step2 .given .1)
 
 add-r : tie.Need-add-r Inv-loop μ-loop
 add-r c =
-    omega (arith, c .before .before .before .before .before .before .before .before .before .before .before .before .before .before .before .before .before .before .before .before .before .before .before .before .before .before .fits .rows)
+    let start = c .before .before .before .before .before .before .before .before .before .before .before .before .before .before .before .before .before .before .before .before .before .before .before .before .before .before in
+    omega (arith, start .fits .rows)
 
 loop-less : tie.Need-loop-less Inv-loop μ-loop
 loop-less c = omega arith
 
 loop-again : tie.Need-loop-again Inv-loop μ-loop
-loop-again c = (
-  omega arith,
-  row-added _ _ _ _ _ _ _ _ _ _ _ _ _ _ _
-      (c .before .before .before .before .before .before .before .before .before .before .before .before .run-row .kept .1 .1 .1 .1 .0)
-      (c .before .before .before .before .before .before .before .before .before .before .before .before .run-row .kept .1 .1 .1 .1 .1 .0) (c .before .before .before .before .before .before .before .before .before .before .before .before .before .before .before .before .before .loop .inv .1) (rw (c .before .before .before .before .before .before .before .before .before .before .before .before .before .before .before .row .ensures) at (c .before .before .before .before .before .before .before .before .before .before .before .before .run-row .ensures)) (row-adds _ _ _ _ _ _ _ _ _ _ _ _ (c .before .before .before .before .before .before .before .before .before .before .before .before .before .before .before .before .before .loop .inv .1 .value) (c .before .before .before .before .before .before .before .before .before .before .before .before .before .before .before .before .before .before .before .before .before .before .before .before .before .before .pre .batch .inputs _ (rw (c .before .before .before .before .before .before .before .before .before .before .before .before .before .before .before .before .before .before .before .before .before .before .before .before .before .before .pre .count) at (c .before .before .before .before .before .before .before .before .before .before .before .before .before .before .before .before .loop-test .taken))) (rw (c .before .before .before .before .before .before .before .before .before .before .before .before .before .before .before .row .ensures) at (c .before .before .before .before .before .before .before .before .before .before .before .before .run-row .ensures)) (c .before .before .before .before .before .before .before .if1 .left) ∙ sym (rw (c .before .before .before .before .row2 .ensures) at (c .before .before .before .row-errors .ensures)) ∙ c .before .step .given .1),
-)
+loop-again c =
+    let at-row-errors = c .before .before .before in
+    let at-row2 = at-row-errors .before in
+    let at-if1 = at-row2 .before .before .before in
+    let at-run-row = at-if1 .before .before .before .before .before in
+    let at-row = at-run-row .before .before .before in
+    let at-loop-test = at-row .before in
+    let at-loop = at-loop-test .before in
+    let start = at-loop .before .before .before .before .before .before .before .before .before in (
+      omega arith,
+      row-added _ _ _ _ _ _ _ _ _ _ _ _ _ _ _
+          (at-run-row .run-row .kept .1 .1 .1 .1 .0)
+          (at-run-row .run-row .kept .1 .1 .1 .1 .1 .0) (at-loop .loop .inv .1)
+          (rw (at-row .row .ensures) at (at-run-row .run-row .ensures))
+          (row-adds _ _ _ _ _ _ _ _ _ _ _ _ (at-loop .loop .inv .1 .value)
+          (start .pre .batch .inputs _ (rw (start .pre .count) at (at-loop-test .loop-test .taken)))
+          (rw (at-row .row .ensures) at (at-run-row .run-row .ensures)) (at-if1 .if1 .left)
+          ∙ sym (rw (at-row2 .row2 .ensures) at (at-row-errors .row-errors .ensures)) ∙ c .before .step .given .1),
+    )
 
 same-length-5 : tie.Need-same-length-5 Inv-loop μ-loop
 same-length-5 c = c .before .loop .inv .1 .sizeA

@@ -39,16 +39,20 @@ same-length c = search needs
 
 returns : tie.Need-returns
 returns c =
-    let e = eq-eqb _ _ (c .before .before .before .before .before .if1 .taken) in rw e
-    (copied _ _ _ _ (c .before .before .before .before .before .before .before .before .before .pre .1) (c .before .before .copy .ensures))
+    let at-if1 = c .before .before .before .before .before in
+    let start = at-if1 .before .before .before .before in
+    let e = eq-eqb _ _ (at-if1 .if1 .taken) in rw e
+    (copied _ _ _ _ (start .pre .1) (c .before .before .copy .ensures))
 
 same-length-2 : tie.Need-same-length-2
 same-length-2 c = search needs
 
 returns-2 : tie.Need-returns-2
 returns-2 c =
-    let e = ne-eqb _ _ (c .before .before .before .before .before .if1 .left) in rw e
-    (copied _ _ _ _ (c .before .before .before .before .before .before .before .before .before .pre .0) (c .before .before .copy2 .ensures))
+    let at-if1 = c .before .before .before .before .before in
+    let start = at-if1 .before .before .before .before in
+    let e = ne-eqb _ _ (at-if1 .if1 .left) in rw e
+    (copied _ _ _ _ (start .pre .0) (c .before .before .copy2 .ensures))
 
 pub copy-outputs-spec : {M : Type 1} → statement M
 copy-outputs-spec =

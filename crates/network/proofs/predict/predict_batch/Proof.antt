@@ -19,25 +19,33 @@ enum-known-checked-2 c = search needs
 
 predict-sound-requires : tie.Need-predict-sound-requires
 predict-sound-requires c κs =
+    let at-checked2 = c .before .before .before .before in
+    let at-equip = at-checked2 .before .before in
     fitted _ _ _ _ _ _ (equipped-sound _ _ _ _ _ _
-    (sym (c .before .before .before .before .before .before .equip .ensures) ∙ c .before .before .before .before .checked2 .given .1))
+    (sym (at-equip .equip .ensures) ∙ at-checked2 .checked2 .given .1))
 
 clear-requires : tie.Need-clear-requires
 clear-requires c κs =
+    let at-predict-sound = c .before .before .before .before .before .before .before in
+    let at-checked2 = at-predict-sound .before .before .before .before .before in
+    let at-equip = at-checked2 .before .before in
     omega (
       arith,
       (equipped-sound _ _ _ _ _ _
-          (sym (c .before .before .before .before .before .before .before .before .before .before .before .before .before .before .equip .ensures) ∙ c .before .before .before .before .before .before .before .before .before .before .before .before .checked2 .given .1)) .first,
-      c .before .before .before .before .before .before .before .predict-sound .kept .1 .1 .1 .1 .0,
+          (sym (at-equip .equip .ensures) ∙ at-checked2 .checked2 .given .1)) .first,
+      at-predict-sound .predict-sound .kept .1 .1 .1 .1 .0,
     )
 
 clear-requires-2 : tie.Need-clear-requires-2
 clear-requires-2 c κs =
+    let at-predict-sound = c .before .before .before .before .before .before .before .before .before .before .before in
+    let at-checked2 = at-predict-sound .before .before .before .before .before in
+    let at-equip = at-checked2 .before .before in
     omega (
       arith,
       (equipped-sound _ _ _ _ _ _
-          (sym (c .before .before .before .before .before .before .before .before .before .before .before .before .before .before .before .before .before .before .equip .ensures) ∙ c .before .before .before .before .before .before .before .before .before .before .before .before .before .before .before .before .checked2 .given .1)) .second,
-      c .before .before .before .before .before .before .before .before .before .before .before .predict-sound .kept .1 .1 .1 .1 .1 .0,
+          (sym (at-equip .equip .ensures) ∙ at-checked2 .checked2 .given .1)) .second,
+      at-predict-sound .predict-sound .kept .1 .1 .1 .1 .1 .0,
     )
 
 returns : tie.Need-returns
@@ -54,8 +62,13 @@ same-length-3 c = search needs
 
 returns-2 : tie.Need-returns-2
 returns-2 c =
+    let at-clear = c .before .before .before .before .before .before in
+    let at-predict-sound = at-clear .before .before .before .before .before .before .before .before in
+    let at-checked2 = at-predict-sound .before .before .before .before .before in
+    let at-equip = at-checked2 .before .before in
     predict-done _ _ _ _ _ _ _ _ _ _ _ _ _ _ _
-    (sym (c .before .before .before .before .before .before .before .before .before .before .before .before .before .before .before .before .before .before .before .before .before .equip .ensures) ∙ c .before .before .before .before .before .before .before .before .before .before .before .before .before .before .before .before .before .before .before .checked2 .given .1) (c .before .before .before .before .before .before .before .before .before .before .before .before .before .before .predict-sound .ensures) (c .before .before .before .before .before .before .clear .ensures) (c .before .before .clear2 .ensures)
+    (sym (at-equip .equip .ensures) ∙ at-checked2 .checked2 .given .1) (at-predict-sound .predict-sound .ensures)
+    (at-clear .clear .ensures) (c .before .before .clear2 .ensures)
 
 pub predict-batch-spec : {M : Type 1} → statement M
 predict-batch-spec =

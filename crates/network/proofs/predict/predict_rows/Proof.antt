@@ -23,123 +23,162 @@ abbrev μ-loop : tie.MeasureT-loop
 μ-loop grid widths model inputs rows first₀ second₀ outputs₀ layers w v r₀ first second outputs r = rows - r
 
 sub-layers : tie.Need-sub-layers Inv-loop μ-loop
-sub-layers c = omega (arith, c .before .before .before .before .before .before .pre .fits .some)
+sub-layers c =
+    let start = c .before .before .before .before .before .before in
+    omega (arith, start .pre .fits .some)
 
 shared-slice-read-w : tie.Need-shared-slice-read-w Inv-loop μ-loop
-shared-slice-read-w c = omega (arith, c .before .before .before .before .before .before .before .pre .fits .some)
+shared-slice-read-w c =
+    let start = c .before .before .before .before .before .before .before in
+    omega (arith, start .pre .fits .some)
 
 mul-v : tie.Need-mul-v Inv-loop μ-loop
-mul-v c = omega (arith, c .before .before .before .before .before .before .before .pre .fits .some)
+mul-v c =
+    let start = c .before .before .before .before .before .before .before in
+    omega (arith, start .pre .fits .some)
 
 shared-slice-read-v : tie.Need-shared-slice-read-v Inv-loop μ-loop
-shared-slice-read-v c = omega (arith, c .before .before .before .before .before .before .before .before .pre .fits .some)
+shared-slice-read-v c =
+    let start = c .before .before .before .before .before .before .before .before in
+    omega (arith, start .pre .fits .some)
 
 loop-holds : tie.Need-loop-holds Inv-loop μ-loop
 loop-holds c = (omega arith, before-first _ _ _ _ _ _ _)
 
 row-requires : tie.Need-row-requires Inv-loop μ-loop
 row-requires c κs =
-    let p = c .before .before .before .before .before .before .before .before .before .before .pre in
+    let start = c .before .before .before .before .before .before .before .before .before .before in
+    let p = start .pre in
     le-of-lt (row-begins _ _ _ (p .fits .positive 0 (omega (arith, p .fits .some))) (rw (p .count) at (c .loop-test .taken)))
 
 run-row-requires : tie.Need-run-row-requires Inv-loop μ-loop
 run-row-requires c κs =
-    let g = c .before .before .before .before .loop .inv .1 in fits-moved _ _ _ _ _ _ _
-    (c .before .before .before .before .before .before .before .before .before .before .before .before .before .pre .fits) (g .sizeA)
+    let at-loop = c .before .before .before .before in
+    let start = at-loop .before .before .before .before .before .before .before .before .before in
+    let g = at-loop .loop .inv .1 in fits-moved _ _ _ _ _ _ _
+    (start .pre .fits) (g .sizeA)
     (g .sizeB)
 
 same-length : tie.Need-same-length Inv-loop μ-loop
 same-length c =
-    c .before .before .before .before .before .run-row .kept .1 .1 .1 .1 .0
-    ∙ c .before .before .before .before .before .before .before .before .before .before .loop .inv .1 .sizeA
+    let at-run-row = c .before .before .before .before .before in
+    let at-loop = at-run-row .before .before .before .before .before in
+    at-run-row .run-row .kept .1 .1 .1 .1 .0
+    ∙ at-loop .loop .inv .1 .sizeA
 
 same-length-2 : tie.Need-same-length-2 Inv-loop μ-loop
 same-length-2 c =
-    c .before .before .before .before .before .run-row .kept .1 .1 .1 .1 .1 .0
-    ∙ c .before .before .before .before .before .before .before .before .before .before .loop .inv .1 .sizeB
+    let at-run-row = c .before .before .before .before .before in
+    let at-loop = at-run-row .before .before .before .before .before in
+    at-run-row .run-row .kept .1 .1 .1 .1 .1 .0
+    ∙ at-loop .loop .inv .1 .sizeB
 
 same-length-3 : tie.Need-same-length-3 Inv-loop μ-loop
-same-length-3 c = c .before .before .before .before .before .before .before .before .before .before .loop .inv .1 .sizeY
+same-length-3 c =
+    let at-loop = c .before .before .before .before .before .before .before .before .before .before in
+    at-loop .loop .inv .1 .sizeY
 
 returns : tie.Need-returns Inv-loop μ-loop
 returns c =
+    let at-run-row = c .before .before .before .before .before in
+    let at-row = at-run-row .before .before .before in
+    let at-loop-test = at-row .before in
+    let at-loop = at-loop-test .before in
     row-refused _ _ _ _ _ _ _ _ _ _ _ _ _ _ _
-    (c .before .before .before .before .before .before .before .before .before .loop-test .taken)
-    (c .before .before .before .before .before .before .before .before .before .before .loop .inv .1)
-    (rw (c .before .before .before .before .before .before .before .before .row .ensures) at
-    (c .before .before .before .before .before .run-row .ensures)) (c .if1 .taken)
+    (at-loop-test .loop-test .taken)
+    (at-loop .loop .inv .1)
+    (rw (at-row .row .ensures) at
+    (at-run-row .run-row .ensures)) (c .if1 .taken)
 
 mul-at : tie.Need-mul-at Inv-loop μ-loop
 mul-at c =
+    let at-loop-test = c .before .before .before .before .before .before .before .before .before in
+    let start = at-loop-test .before .before .before .before .before .before .before .before .before .before in
     omega (
       arith,
-      room _ _ _ _ (c .before .before .before .before .before .before .before .before .before .loop-test .taken)
-          (c .before .before .before .before .before .before .before .before .before .before .before .before .before .before .before .before .before .before .before .pre .room),
+      room _ _ _ _ (at-loop-test .loop-test .taken)
+          (start .pre .room),
     )
 
 mul-copy-outputs : tie.Need-mul-copy-outputs Inv-loop μ-loop
 mul-copy-outputs c =
+    let at-loop-test = c .before .before .before .before .before .before .before .before .before .before .before in
+    let at-loop = at-loop-test .before in
+    let start = at-loop .before .before .before .before .before .before .before .before .before in
     omega (
       arith,
       room _ _ _ _
-          (c .before .before .before .before .before .before .before .before .before .before .before .loop-test .taken)
-          (c .before .before .before .before .before .before .before .before .before .before .before .before .before .before .before .before .before .before .before .before .before .pre .room),
-      c .before .before .before .before .before .before .before .before .before .before .before .before .loop .inv .1 .sizeY,
+          (at-loop-test .loop-test .taken)
+          (start .pre .room),
+      at-loop .loop .inv .1 .sizeY,
     )
 
 sub-copy-outputs : tie.Need-sub-copy-outputs Inv-loop μ-loop
 sub-copy-outputs c =
+    let at-loop-test = c .before .before .before .before .before .before .before .before .before .before .before in
+    let at-loop = at-loop-test .before in
+    let start = at-loop .before .before .before .before .before .before .before .before .before in
     omega (
       arith,
       room _ _ _ _
-          (c .before .before .before .before .before .before .before .before .before .before .before .loop-test .taken)
-          (c .before .before .before .before .before .before .before .before .before .before .before .before .before .before .before .before .before .before .before .before .before .pre .room),
-      c .before .before .before .before .before .before .before .before .before .before .before .before .loop .inv .1 .sizeY,
+          (at-loop-test .loop-test .taken)
+          (start .pre .room),
+      at-loop .loop .inv .1 .sizeY,
     )
 
 part-copy-outputs-start : tie.Need-part-copy-outputs-start Inv-loop μ-loop
 part-copy-outputs-start c =
+    let at-loop-test = c .before .before .before .before .before .before .before .before .before .before .before in
+    let at-loop = at-loop-test .before in
+    let start = at-loop .before .before .before .before .before .before .before .before .before in
     omega (
       arith,
       room _ _ _ _
-          (c .before .before .before .before .before .before .before .before .before .before .before .loop-test .taken)
-          (c .before .before .before .before .before .before .before .before .before .before .before .before .before .before .before .before .before .before .before .before .before .pre .room),
-      c .before .before .before .before .before .before .before .before .before .before .before .before .loop .inv .1 .sizeY,
+          (at-loop-test .loop-test .taken)
+          (start .pre .room),
+      at-loop .loop .inv .1 .sizeY,
     )
 
 part-copy-outputs-end : tie.Need-part-copy-outputs-end Inv-loop μ-loop
 part-copy-outputs-end c =
+    let at-loop-test = c .before .before .before .before .before .before .before .before .before .before .before in
+    let at-loop = at-loop-test .before in
+    let start = at-loop .before .before .before .before .before .before .before .before .before in
     omega (
       arith,
       room _ _ _ _
-          (c .before .before .before .before .before .before .before .before .before .before .before .loop-test .taken)
-          (c .before .before .before .before .before .before .before .before .before .before .before .before .before .before .before .before .before .before .before .before .before .pre .room),
-      c .before .before .before .before .before .before .before .before .before .before .before .before .loop .inv .1 .sizeY,
+          (at-loop-test .loop-test .taken)
+          (start .pre .room),
+      at-loop .loop .inv .1 .sizeY,
     )
 
 copy-outputs-requires : tie.Need-copy-outputs-requires Inv-loop μ-loop
 copy-outputs-requires c κs =
-    let p = c .before .before .before .before .before .before .before .before .before .before .before .before .before .before .before .before .before .before .before .before .before .before .pre .fits in
-    let g = c .before .before .before .before .before .before .before .before .before .before .before .before .before .loop .inv .1 in (
+    let at-run-row = c .before .before .before .before .before .before .before .before in
+    let at-loop-test = at-run-row .before .before .before .before in
+    let at-loop = at-loop-test .before in
+    let start = at-loop .before .before .before .before .before .before .before .before .before in
+    let p = start .pre .fits in
+    let g = at-loop .loop .inv .1 in (
       omega (
         arith,
         p .first _
             (last _ (p .some)),
         g .sizeA,
-        c .before .before .before .before .before .before .before .before .run-row .kept .1 .1 .1 .1 .0,
+        at-run-row .run-row .kept .1 .1 .1 .1 .0,
       ),
       omega (
         arith,
         p .second _
             (last _ (p .some)),
         g .sizeB,
-        c .before .before .before .before .before .before .before .before .run-row .kept .1 .1 .1 .1 .1 .0,
+        at-run-row .run-row .kept .1 .1 .1 .1 .1 .0,
       ),
       rw rest-length (omega (
         arith,
         room _ _ _ _
-            (c .before .before .before .before .before .before .before .before .before .before .before .before .loop-test .taken)
-            (c .before .before .before .before .before .before .before .before .before .before .before .before .before .before .before .before .before .before .before .before .before .before .pre .room),
+            (at-loop-test .loop-test .taken)
+            (start .pre .room),
         g .sizeY,
       )),
     )
@@ -152,10 +191,18 @@ loop-less c = omega arith
 
 loop-again : tie.Need-loop-again Inv-loop μ-loop
 loop-again c =
-    let g = c .before .before .before .before .before .before .before .before .before .before .before .before .before .before .before .before .loop .inv .1 in (
+    let at-if1 = c .before .before .before .before .before .before in
+    let at-run-row = at-if1 .before .before .before .before .before in
+    let at-row = at-run-row .before .before .before in
+    let at-loop-test = at-row .before in
+    let at-loop = at-loop-test .before in
+    let start = at-loop .before .before .before .before .before .before .before .before .before in
+    let g = at-loop .loop .inv .1 in (
       omega arith,
       one-row _ _ _ _ _ _ _ _ _ _ _ _ _ _ _
-          (c .before .before .before .before .before .before .before .before .before .before .before .before .before .before .before .before .before .before .before .before .before .before .before .before .before .pre .fits .some) (omega (arith, room _ _ _ _ (c .before .before .before .before .before .before .before .before .before .before .before .before .before .before .before .loop-test .taken) (c .before .before .before .before .before .before .before .before .before .before .before .before .before .before .before .before .before .before .before .before .before .before .before .before .before .pre .room), g .sizeY)) (c .before .before .before .before .before .before .before .before .before .before .before .run-row .kept .1 .1 .1 .1 .0) (c .before .before .before .before .before .before .before .before .before .before .before .run-row .kept .1 .1 .1 .1 .1 .0) (c .before .outputs .given .1) g (rw (c .before .before .before .before .before .before .before .before .before .before .before .before .before .before .row .ensures) at (c .before .before .before .before .before .before .before .before .before .before .before .run-row .ensures)) (c .before .before .before .before .before .before .if1 .left)
+          (start .pre .fits .some) (omega (arith, room _ _ _ _ (at-loop-test .loop-test .taken) (start .pre .room), g .sizeY))
+          (at-run-row .run-row .kept .1 .1 .1 .1 .0) (at-run-row .run-row .kept .1 .1 .1 .1 .1 .0) (c .before .outputs .given .1) g
+          (rw (at-row .row .ensures) at (at-run-row .run-row .ensures)) (at-if1 .if1 .left)
           (c .before .before .copy-outputs .ensures),
     )
 

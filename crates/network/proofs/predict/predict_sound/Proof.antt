@@ -22,7 +22,8 @@ shared-slice-read-outputs-fit c = search needs
 
 outputs-fit-requires : tie.Need-outputs-fit-requires
 outputs-fit-requires c κs =
-    let p = c .before .before .before .before .before .before .before .before .pre in
+    let start = c .before .before .before .before .before .before .before .before in
+    let p = start .pre in
     (p .positive 0 (omega (arith, p .some)), p .positive _ (omega (arith, p .some)))
 
 returns : tie.Need-returns
@@ -38,12 +39,22 @@ returns-2 c =
 
 rows-in-requires : tie.Need-rows-in-requires
 rows-in-requires c κs =
-    let p = c .before .before .before .before .before .before .before .before .before .before .before .before .pre in p .positive 0
+    let start = c .before .before .before .before .before .before .before .before .before .before .before .before in
+    let p = start .pre in p .positive 0
     (omega (arith, p .some))
 
 predict-rows-requires : tie.Need-predict-rows-requires
 predict-rows-requires c κs =
-    record { fits = c .before .before .before .before .before .before .before .before .before .before .before .before .before .before .before .before .pre; count = c .before .before .before .rows-in .ensures; room = outputs-room _ _ _ _ _ (sym (c .before .before .before .before .before .before .before .outputs-fit .ensures) ∙ not-false _ (c .before .before .before .before .before .before .if1 .left)) (c .before .before .before .rows-in .ensures) }
+    let at-rows-in = c .before .before .before in
+    let at-if1 = at-rows-in .before .before .before in
+    let at-outputs-fit = at-if1 .before in
+    let start = at-outputs-fit .before .before .before .before .before .before .before .before .before in
+    record {
+      fits = start .pre;
+      count = at-rows-in .rows-in .ensures;
+      room = outputs-room _ _ _ _ _
+          (sym (at-outputs-fit .outputs-fit .ensures) ∙ not-false _ (at-if1 .if1 .left)) (at-rows-in .rows-in .ensures);
+    }
 
 same-length : tie.Need-same-length
 same-length c = search needs
@@ -56,8 +67,16 @@ same-length-3 c = search needs
 
 returns-3 : tie.Need-returns-3
 returns-3 c =
+    let at-predict-rows = c .before .before .before .before .before .before in
+    let at-rows-in = at-predict-rows .before .before .before .before in
+    let at-if2 = at-rows-in .before in
+    let at-all-finite = at-if2 .before in
+    let at-if1 = at-all-finite .before in
+    let at-outputs-fit = at-if1 .before in
     rows-done _ _ _ _ _ _ _ _ _ _ _ _
-    (sym (c .before .before .before .before .before .before .before .before .before .before .before .before .before .before .outputs-fit .ensures) ∙ not-false _ (c .before .before .before .before .before .before .before .before .before .before .before .before .before .if1 .left)) (sym (c .before .before .before .before .before .before .before .before .before .before .before .before .all-finite .ensures) ∙ not-false _ (c .before .before .before .before .before .before .before .before .before .before .before .if2 .left)) (c .before .before .before .before .before .before .before .before .before .before .rows-in .ensures) (c .before .before .before .before .before .before .predict-rows .ensures)
+    (sym (at-outputs-fit .outputs-fit .ensures) ∙ not-false _ (at-if1 .if1 .left))
+    (sym (at-all-finite .all-finite .ensures) ∙ not-false _ (at-if2 .if2 .left)) (at-rows-in .rows-in .ensures)
+    (at-predict-rows .predict-rows .ensures)
 
 pub predict-sound-spec : {M : Type 1} → statement M
 predict-sound-spec =

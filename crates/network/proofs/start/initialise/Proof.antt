@@ -29,7 +29,11 @@ same-length : tie.Need-same-length
 same-length c = search needs
 
 returns-2 : tie.Need-returns-2
-returns-2 c = let e = sym (c .before .before .before .before .before .before .admit .ensures) ∙ c .before .before .before .before .enum-told .given .1 in record { answer = rw e; model = rw e (c .before .before .initialise .ensures) }
+returns-2 c =
+    let at-enum-told = c .before .before .before .before in
+    let at-admit = at-enum-told .before .before in
+    let e = sym (at-admit .admit .ensures)
+    ∙ at-enum-told .enum-told .given .1 in record { answer = rw e; model = rw e (c .before .before .initialise .ensures) }
 
 pub initialise-spec : {M : Type 1} → statement M
 initialise-spec =

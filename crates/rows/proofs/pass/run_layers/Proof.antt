@@ -70,42 +70,53 @@ shared-slice-read-n c = omega arith
 
 mul-turn : tie.Need-mul-turn Inv-loop μ-loop
 mul-turn c =
+    let at-loop = c .before .before .before in
+    let start = at-loop .before .before .before .before .before .before in
     omega (
       arith,
       inside _ _ (c .before .before .loop-test .taken)
-          (c .before .before .before .before .before .before .before .before .before .pre) (c .before .before .before .loop .inv .1),
+          (start .pre) (at-loop .loop .inv .1),
     )
 
 sub-turn : tie.Need-sub-turn Inv-loop μ-loop
 sub-turn c =
+    let at-loop = c .before .before .before in
+    let start = at-loop .before .before .before .before .before .before in
     omega (
       arith,
       inside _ _ (c .before .before .loop-test .taken)
-          (c .before .before .before .before .before .before .before .before .before .pre) (c .before .before .before .loop .inv .1),
+          (start .pre) (at-loop .loop .inv .1),
     )
 
 part-turn-start : tie.Need-part-turn-start Inv-loop μ-loop
 part-turn-start c =
+    let at-loop = c .before .before .before in
+    let start = at-loop .before .before .before .before .before .before in
     omega (
       arith,
       inside _ _ (c .before .before .loop-test .taken)
-          (c .before .before .before .before .before .before .before .before .before .pre) (c .before .before .before .loop .inv .1),
+          (start .pre) (at-loop .loop .inv .1),
     )
 
 part-turn-end : tie.Need-part-turn-end Inv-loop μ-loop
 part-turn-end c =
+    let at-loop = c .before .before .before in
+    let start = at-loop .before .before .before .before .before .before in
     omega (
       arith,
       inside _ _ (c .before .before .loop-test .taken)
-          (c .before .before .before .before .before .before .before .before .before .pre) (c .before .before .before .loop .inv .1),
+          (start .pre) (at-loop .loop .inv .1),
     )
 
 turn-requires : tie.Need-turn-requires Inv-loop μ-loop
 turn-requires c κs =
-    let p = c .before .before .before .before .before .before .before .before .before .before .before .before .pre in
-    let k = c .before .before .before .before .before .before .loop .inv .1 .kept in
-    let w = most _ _ _ _ _ (p .first) (p .second) k (c .before .before .before .before .before .before .loop .l) (omega arith) in
-    let n = most _ _ _ _ _ (p .first) (p .second) k (c .before .before .before .before .before .before .loop .l + 1) (omega arith) in
+    let at-loop-test = c .before .before .before .before .before in
+    let at-loop = at-loop-test .before in
+    let start = at-loop .before .before .before .before .before .before in
+    let p = start .pre in
+    let k = at-loop .loop .inv .1 .kept in
+    let w = most _ _ _ _ _ (p .first) (p .second) k (at-loop .loop .l) (omega arith) in
+    let n = most _ _ _ _ _ (p .first) (p .second) k (at-loop .loop .l + 1) (omega arith) in
     record {
       grid = p .grid;
       some = p .positive _ (omega arith);
@@ -116,55 +127,77 @@ turn-requires c κs =
       params =
           rw rest-length (omega (
             arith,
-            inside _ _ (c .before .before .before .before .before .loop-test .taken)
-                (c .before .before .before .before .before .before .before .before .before .before .before .before .pre)
-                (c .before .before .before .before .before .before .loop .inv .1),
+            inside _ _ (at-loop-test .loop-test .taken)
+                (start .pre)
+                (at-loop .loop .inv .1),
           ));
     }
 
 same-length : tie.Need-same-length Inv-loop μ-loop
 same-length c =
-    keeps _ _ (c .before .before .before .before .before .before .before .before .before .before .before .loop-test .taken)
-    (c .before .before .before .before .before .before .before .before .before .before .before .before .before .before .before .before .before .before .pre) (c .before .before .before .before .before .before .before .before .before .before .before .before .loop .inv .1) (c .before .before .before .before .before .turn .ensures) .sizeA
+    let at-turn = c .before .before .before .before .before in
+    let at-loop-test = at-turn .before .before .before .before .before .before in
+    let at-loop = at-loop-test .before in
+    let start = at-loop .before .before .before .before .before .before in
+    keeps _ _ (at-loop-test .loop-test .taken)
+    (start .pre) (at-loop .loop .inv .1) (at-turn .turn .ensures) .sizeA
 
 same-length-2 : tie.Need-same-length-2 Inv-loop μ-loop
 same-length-2 c =
-    keeps _ _ (c .before .before .before .before .before .before .before .before .before .before .before .loop-test .taken)
-    (c .before .before .before .before .before .before .before .before .before .before .before .before .before .before .before .before .before .before .pre) (c .before .before .before .before .before .before .before .before .before .before .before .before .loop .inv .1) (c .before .before .before .before .before .turn .ensures) .sizeB
+    let at-turn = c .before .before .before .before .before in
+    let at-loop-test = at-turn .before .before .before .before .before .before in
+    let at-loop = at-loop-test .before in
+    let start = at-loop .before .before .before .before .before .before in
+    keeps _ _ (at-loop-test .loop-test .taken)
+    (start .pre) (at-loop .loop .inv .1) (at-turn .turn .ensures) .sizeB
 
 returns : tie.Need-returns Inv-loop μ-loop
 returns c =
-    let kept = keeps _ _ (c .before .before .before .before .before .before .before .before .before .before .before .loop-test .taken)
-    (c .before .before .before .before .before .before .before .before .before .before .before .before .before .before .before .before .before .before .pre) (c .before .before .before .before .before .before .before .before .before .before .before .before .loop .inv .1) (c .before .before .before .before .before .turn .ensures) in
+    let at-turn = c .before .before .before .before .before in
+    let at-loop-test = at-turn .before .before .before .before .before .before in
+    let at-loop = at-loop-test .before in
+    let start = at-loop .before .before .before .before .before .before in
+    let kept = keeps _ _ (at-loop-test .loop-test .taken)
+    (start .pre) (at-loop .loop .inv .1) (at-turn .turn .ensures) in
     stopped _ _ _ _ _ _ _ _ _ _ _ _ _ (not-true _ (c .if1 .taken))
-    (c .before .before .before .before .before .before .before .before .before .before .before .loop-test .taken) kept
-    (c .before .before .before .before .before .before .before .before .before .before .before .before .loop .inv .1)
-    (c .before .before .before .before .before .turn .ensures)
+    (at-loop-test .loop-test .taken) kept
+    (at-loop .loop .inv .1)
+    (at-turn .turn .ensures)
 
 mul-at : tie.Need-mul-at Inv-loop μ-loop
 mul-at c =
+    let at-loop-test = c .before .before .before .before .before .before .before .before .before .before .before in
+    let at-loop = at-loop-test .before in
+    let start = at-loop .before .before .before .before .before .before in
     omega (
       arith,
       row-room _ _ _
-          (c .before .before .before .before .before .before .before .before .before .before .before .before .before .before .before .before .before .before .pre .positive (c .before .before .before .before .before .before .before .before .before .before .before .before .loop .l + 1) (omega arith)) (le-trans (le-add-left _ _) (inside _ _ (c .before .before .before .before .before .before .before .before .before .before .before .loop-test .taken) (c .before .before .before .before .before .before .before .before .before .before .before .before .before .before .before .before .before .before .pre) (c .before .before .before .before .before .before .before .before .before .before .before .before .loop .inv .1))),
+          (start .pre .positive (at-loop .loop .l + 1) (omega arith))
+          (le-trans (le-add-left _ _) (inside _ _ (at-loop-test .loop-test .taken) (start .pre) (at-loop .loop .inv .1))),
     )
 
 mul-at-2 : tie.Need-mul-at-2 Inv-loop μ-loop
 mul-at-2 c =
+    let at-loop-test = c .before .before .before .before .before .before .before .before .before .before .before in
+    let at-loop = at-loop-test .before in
+    let start = at-loop .before .before .before .before .before .before in
     omega (
       arith,
       inside _ _
-          (c .before .before .before .before .before .before .before .before .before .before .before .loop-test .taken)
-          (c .before .before .before .before .before .before .before .before .before .before .before .before .before .before .before .before .before .before .pre) (c .before .before .before .before .before .before .before .before .before .before .before .before .loop .inv .1),
+          (at-loop-test .loop-test .taken)
+          (start .pre) (at-loop .loop .inv .1),
     )
 
 add-at : tie.Need-add-at Inv-loop μ-loop
 add-at c =
+    let at-loop-test = c .before .before .before .before .before .before .before .before .before .before .before in
+    let at-loop = at-loop-test .before in
+    let start = at-loop .before .before .before .before .before .before in
     omega (
       arith,
       inside _ _
-          (c .before .before .before .before .before .before .before .before .before .before .before .loop-test .taken)
-          (c .before .before .before .before .before .before .before .before .before .before .before .before .before .before .before .before .before .before .pre) (c .before .before .before .before .before .before .before .before .before .before .before .before .loop .inv .1),
+          (at-loop-test .loop-test .taken)
+          (start .pre) (at-loop .loop .inv .1),
     )
 
 add-l : tie.Need-add-l Inv-loop μ-loop
@@ -175,12 +208,16 @@ loop-less c = omega arith
 
 loop-again : tie.Need-loop-again Inv-loop μ-loop
 loop-again c =
-    let kept = keeps _ _ (c .before .before .before .before .before .before .before .before .before .before .before .loop-test .taken)
-    (c .before .before .before .before .before .before .before .before .before .before .before .before .before .before .before .before .before .before .pre) (c .before .before .before .before .before .before .before .before .before .before .before .before .loop .inv .1) (c .before .before .before .before .before .turn .ensures) in (
+    let at-turn = c .before .before .before .before .before in
+    let at-loop-test = at-turn .before .before .before .before .before .before in
+    let at-loop = at-loop-test .before in
+    let start = at-loop .before .before .before .before .before .before in
+    let kept = keeps _ _ (at-loop-test .loop-test .taken)
+    (start .pre) (at-loop .loop .inv .1) (at-turn .turn .ensures) in (
       omega arith,
       one-layer _ _ _ _ _ _ _ _ _ _ _ _ _ (not-false _ (c .if1 .left)) kept
-          (c .before .before .before .before .before .before .before .before .before .before .before .before .loop .inv .1)
-          (c .before .before .before .before .before .turn .ensures),
+          (at-loop .loop .inv .1)
+          (at-turn .turn .ensures),
     )
 
 same-length-3 : tie.Need-same-length-3 Inv-loop μ-loop

@@ -20,23 +20,28 @@ returns c = at-fault _ _ _ _ _ _ _ (c .before .row-fault .ensures) (c .if1 .take
 
 copy-requires : tie.Need-copy-requires
 copy-requires c κs =
+    let start = c .before .before .before .before .before .before .before .before .before in
     omega (
       arith,
       full _ _
           (sym (c .before .before .row-fault .ensures)
           ∙ c .before .if1 .left),
-      c .before .before .before .before .before .before .before .before .before .pre .second 0
-          (omega (arith, c .before .before .before .before .before .before .before .before .before .pre .some)),
+      start .pre .second 0
+          (omega (arith, start .pre .some)),
     )
 
 run-layers-requires : tie.Need-run-layers-requires
 run-layers-requires c κs =
-    let p = c .before .before .before .before .before .before .before .before .before .before .before .before .before .before .pre in
-    let wide = full _ _ (sym (c .before .before .before .before .before .before .before .row-fault .ensures)
-    ∙ c .before .before .before .before .before .before .if1 .left) in
-    let row = c .before .before .before .before .before .before .before .before .before .before .before .before .before .before .args .row .now in
+    let at-copy = c .before .before .before .before in
+    let at-if1 = at-copy .before .before in
+    let at-row-fault = at-if1 .before in
+    let start = at-row-fault .before .before .before .before .before .before .before in
+    let p = start .pre in
+    let wide = full _ _ (sym (at-row-fault .row-fault .ensures)
+    ∙ at-if1 .if1 .left) in
+    let row = start .args .row .now in
     let size = same-size row (length row)
-    (c .before .before .before .before .before .before .before .before .before .before .before .before .before .before .args .second .now) _ refl (omega (arith, wide, p .second 0 (omega (arith, p .some)))) (c .before .before .before .before .copy .ensures) in
+    (start .args .second .now) _ refl (omega (arith, wide, p .second 0 (omega (arith, p .some)))) (at-copy .copy .ensures) in
     record {
       grid = p .grid;
       some = p .some;
@@ -54,9 +59,14 @@ same-length-2 c = search needs
 
 returns-2 : tie.Need-returns-2
 returns-2 c =
+    let at-run-layers = c .before .before .before .before .before in
+    let at-copy = at-run-layers .before .before .before .before .before in
+    let at-if1 = at-copy .before .before in
+    let at-row-fault = at-if1 .before in
+    let start = at-row-fault .before .before .before .before .before .before .before in
     through _ _ _ _ _ _ _ _ _ _ _
-    (omega (arith, c .before .before .before .before .before .before .before .before .before .before .before .before .before .before .before .before .before .before .before .before .pre .some)) (sym (c .before .before .before .before .before .before .before .before .before .before .before .before .before .row-fault .ensures) ∙ c .before .before .before .before .before .before .before .before .before .before .before .before .if1 .left) (c .before .before .before .before .before .before .before .before .before .before .copy .ensures)
-    (c .before .before .before .before .before .run-layers .ensures) (sym (rw (c .if2 .taken)))
+    (omega (arith, start .pre .some)) (sym (at-row-fault .row-fault .ensures) ∙ at-if1 .if1 .left) (at-copy .copy .ensures)
+    (at-run-layers .run-layers .ensures) (sym (rw (c .if2 .taken)))
 
 same-length-3 : tie.Need-same-length-3
 same-length-3 c = search needs
@@ -66,9 +76,14 @@ same-length-4 c = search needs
 
 returns-3 : tie.Need-returns-3
 returns-3 c =
+    let at-run-layers = c .before .before .before .before .before in
+    let at-copy = at-run-layers .before .before .before .before .before in
+    let at-if1 = at-copy .before .before in
+    let at-row-fault = at-if1 .before in
+    let start = at-row-fault .before .before .before .before .before .before .before in
     through _ _ _ _ _ _ _ _ _ _ _
-    (omega (arith, c .before .before .before .before .before .before .before .before .before .before .before .before .before .before .before .before .before .before .before .before .pre .some)) (sym (c .before .before .before .before .before .before .before .before .before .before .before .before .before .row-fault .ensures) ∙ c .before .before .before .before .before .before .before .before .before .before .before .before .if1 .left) (c .before .before .before .before .before .before .before .before .before .before .copy .ensures)
-    (c .before .before .before .before .before .run-layers .ensures) (sym (rw (c .if2 .left)))
+    (omega (arith, start .pre .some)) (sym (at-row-fault .row-fault .ensures) ∙ at-if1 .if1 .left) (at-copy .copy .ensures)
+    (at-run-layers .run-layers .ensures) (sym (rw (c .if2 .left)))
 
 pub run-row-spec : {M : Type 1} → statement M
 run-row-spec =

@@ -26,9 +26,10 @@ part-layer-forward-end c = search needs
 
 layer-forward-requires : tie.Need-layer-forward-requires
 layer-forward-requires c κs =
-    let p = c .before .before .before .before .before .before .before .pre in
-    let r : length (take (c .before .before .before .before .before .before .before .args .w - 0)
-    (drop 0 (c .before .before .before .before .before .before .before .args .second .now))) ≡ c .before .before .before .before .before .before .before .args .w = front-length _ _ (p .fromSecond) in
+    let start = c .before .before .before .before .before .before .before in
+    let p = start .pre in
+    let r : length (take (start .args .w - 0)
+    (drop 0 (start .args .second .now))) ≡ start .args .w = front-length _ _ (p .fromSecond) in
     record { grid = p .grid; some = p .some; outputs = p .toFirst; params = rw r (p .params) }
 
 sub-all-finite : tie.Need-sub-all-finite
@@ -54,9 +55,10 @@ part-layer-forward-end-2 c = search needs
 
 layer-forward-requires-2 : tie.Need-layer-forward-requires-2
 layer-forward-requires-2 c κs =
-    let p = c .before .before .before .before .before .before .before .pre in
-    let r : length (take (c .before .before .before .before .before .before .before .args .w - 0)
-    (drop 0 (c .before .before .before .before .before .before .before .args .first .now))) ≡ c .before .before .before .before .before .before .before .args .w = front-length _ _ (p .fromFirst) in
+    let start = c .before .before .before .before .before .before .before in
+    let p = start .pre in
+    let r : length (take (start .args .w - 0)
+    (drop 0 (start .args .first .now))) ≡ start .args .w = front-length _ _ (p .fromFirst) in
     record { grid = p .grid; some = p .some; outputs = p .toSecond; params = rw r (p .params) }
 
 sub-all-finite-2 : tie.Need-sub-all-finite-2
@@ -79,11 +81,14 @@ same-length-2 c = search needs
 
 returns : tie.Need-returns
 returns c =
-    let e = eq-eqb _ _ (c .before .before .before .before .before .before .before .before .before .if1 .taken) in
-    let s = c .before .before .before .before .before .before .before .before .before .before .before .before .before .args in
+    let at-layer-forward = c .before .before .before .before .before in
+    let at-if1 = at-layer-forward .before .before .before .before in
+    let start = at-if1 .before .before .before .before in
+    let e = eq-eqb _ _ (at-if1 .if1 .taken) in
+    let s = start .args in
     let B = basisOf (s .grid) in
     let a' = front-in B (s .params .now) (s .w) (s .n) (s .second .now) (s .first .now) _
-    (c .before .before .before .before .before .layer-forward .ensures) in
+    (at-layer-forward .layer-forward .ensures) in
     record { finite = c .all-finite .ensures ∙ ap allFinite (fronted B _ _ _ _ _ a') ∙ rw e; first = rw e a'; second = rw e }
 
 same-length-3 : tie.Need-same-length-3
@@ -94,11 +99,14 @@ same-length-4 c = search needs
 
 returns-2 : tie.Need-returns-2
 returns-2 c =
-    let e = ne-eqb _ _ (c .before .before .before .before .before .before .before .before .before .if1 .left) in
-    let s = c .before .before .before .before .before .before .before .before .before .before .before .before .before .args in
+    let at-layer-forward2 = c .before .before .before .before .before in
+    let at-if1 = at-layer-forward2 .before .before .before .before in
+    let start = at-if1 .before .before .before .before in
+    let e = ne-eqb _ _ (at-if1 .if1 .left) in
+    let s = start .args in
     let B = basisOf (s .grid) in
     let b' = front-in B (s .params .now) (s .w) (s .n) (s .first .now) (s .second .now) _
-    (c .before .before .before .before .before .layer-forward2 .ensures) in
+    (at-layer-forward2 .layer-forward2 .ensures) in
     record { finite = c .all-finite2 .ensures ∙ ap allFinite (fronted B _ _ _ _ _ b') ∙ rw e; first = rw e; second = rw e b' }
 
 pub turn-spec : {M : Type 1} → statement M

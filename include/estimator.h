@@ -1,0 +1,142 @@
+/*
+ * estimator.h - compile times estimated by a small Kolmogorov-Arnold network.
+ *
+ * Link with libestimator.a. Every machine reaches the same bits.
+ *
+ * A network is described anew in each call, by five arguments:
+ *
+ *   widths, widths_len   nodes of each layer: inputs first, outputs last
+ *   intervals            intervals g of the spline grid
+ *   lo, hi               the grid's domain
+ *
+ * From them follow
+ *
+ *   P   the number of parameters: the sum over neighbouring widths of
+ *       in * out * (g + 5); kan_check tells it
+ *   W   the largest width, the input width too
+ *
+ * A model is P floats. Layer follows layer; in a layer the edges stand output
+ * by output, and for each output input by input; an edge is its base weight,
+ * its spline weight and g + 3 coefficients.
+ *
+ * A batch is flat: row follows row, each of the input width (targets and
+ * outputs: of the output width). If its length is no multiple of the width,
+ * the last row is short; a short row counts as a row and is refused when its
+ * turn comes.
+ *
+ * Every function returns 0, or the number of the first refusal:
+ *
+ *    1  fewer than two widths, or a zero width
+ *    2  a product of neighbouring widths is 2^64 or more
+ *    3  grid intervals g is 0 or above 2^63 - 8
+ *    4  the domain: an end not finite, lo not below hi, or a grid whose steps
+ *       are not finite or do not move its ends; first asked of g with the
+ *       domain [-1, 1] (refused from 67,108,862 on), last of the given domain
+ *    5  one layer's parameter count is 2^64 or more
+ *    6  the running total's parameter count is 2^64 or more
+ *    7  total above 250,000; carries the total
+ *    8  model slice length is not P
+ *    9  work slice too short
+ *   10  output or map length wrong
+ *   11  a parameter not finite
+ *   12  row counts differ
+ *   13  no rows
+ *   14  input row of wrong width
+ *   15  input not finite
+ *   16  target row of wrong width
+ *   17  target not finite
+ *   18  more than 16,777,216 target values
+ *   19  learning rate not finite or not above 0
+ *   20  a node value not finite
+ *   21  squared error not finite
+ *   22  sum of squared errors not finite
+ *   23  an updated parameter not finite
+ *
+ * "Configuration" below stands for 1, 2, 3, 4 with the domain [-1, 1], layer by
+ * layer 5 and 6, then 7, then 4 with the given domain, in this order.
+ *
+ * `carried` is always written: what the refusal carries, and 0 where it carries
+ * nothing and on success. Any other lent number is written on success only.
+ *
+ * No function allocates, or keeps anything between calls: threads may call at
+ * the same time, each with its own buffers to write. What a call only reads
+ * (const), they may share.
+ *
+ * What the caller owes, since no function can check it:
+ *   - each pointer is valid for its length, counted in elements; null is fine
+ *     with length 0. `carried`, `parameters` and `loss` are never null.
+ *   - buffers, and the lent numbers too, do not overlap.
+ *   - rounding is to nearest, and subnormals are kept: a thread that flushes
+ *     them to zero, as games often do, must not do so during a call.
+ */
+#ifndef ESTIMATOR_H
+#define ESTIMATOR_H
+
+#include <stddef.h>
+#include <stdint.h>
+
+#if SIZE_MAX != UINT64_MAX
+#error "the estimator needs a size_t of 64 bits"
+#endif
+
+#ifdef __cplusplus
+extern "C" {
+#endif
+
+/*
+ * Checks a configuration and tells its number of parameters, P.
+ *
+ * Refusals: configuration. 7 carries the total.
+ * Memory: on success `parameters` holds P; refused, it is unchanged.
+ */
+uint32_t kan_check(const size_t *widths, size_t widths_len, size_t intervals, float lo, float hi,
+                   size_t *parameters, size_t *carried);
+
+/*
+ * Fills a model with the starting parameters that belong to a seed.
+ *
+ * Refusals: configuration, 8. 7 carries the total.
+ * Memory: on success all P floats of `model` are written; refused, it is
+ * unchanged. What it held before does not matter.
+ */
+uint32_t kan_initialise(const size_t *widths, size_t widths_len, size_t intervals, float lo, float hi,
+                        uint64_t seed, float *model, size_t model_len, size_t *carried);
+
+/*
+ * Predicts every row of a batch. `outputs` has rows * output width floats, and
+ * the two work slices `first` and `second` at least W each. No rows, with no
+ * outputs, is fine.
+ *
+ * Refusals: configuration, 8, 9, 10, 11, then row by row 14, 15, 20. 7 carries
+ * the total; 14, 15 and 20 carry the row, counted from 0.
+ * Memory: on success all of `outputs` is written. Refused at row r, the outputs
+ * of rows 0 to r - 1 are written and the rest is unchanged; refused before any
+ * row, all is. Past check 9, and after success too, the first W floats of each
+ * work slice are +0.0; else they are unchanged. Work beyond W is never touched.
+ */
+uint32_t kan_predict(const size_t *widths, size_t widths_len, size_t intervals, float lo, float hi,
+                     const float *model, size_t model_len, const float *inputs, size_t inputs_len,
+                     float *first, size_t first_len, float *second, size_t second_len,
+                     float *outputs, size_t outputs_len, size_t *carried);
+
+/*
+ * The mean squared error of a batch, over all rows and outputs. The two work
+ * slices `first` and `second` have at least W floats each.
+ *
+ * Refusals: configuration, 8, 9, 11, 12, 13, each input row's 14 and 15, each
+ * target row's 16 and 17, 18, then row by row 20 and for each output 21 and 22.
+ * 7 carries the total; no row is carried.
+ * Memory: on success `loss` holds the error; refused, it is unchanged. Past
+ * check 9, and after success too, the first W floats of each work slice are
+ * +0.0; else they are unchanged. Work beyond W is never touched.
+ */
+uint32_t kan_loss(const size_t *widths, size_t widths_len, size_t intervals, float lo, float hi,
+                  const float *model, size_t model_len, const float *inputs, size_t inputs_len,
+                  const float *targets, size_t targets_len, float *first, size_t first_len,
+                  float *second, size_t second_len, float *loss, size_t *carried);
+
+#ifdef __cplusplus
+}
+#endif
+
+#endif /* ESTIMATOR_H */

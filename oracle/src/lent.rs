@@ -1,0 +1,104 @@
+//! Memory lent to a call: the cells it may use, and guards on both sides that it must leave alone.
+
+use std::ptr;
+
+/// An odd number, so that lent floats lie at no rounder address than they must.
+const GUARDS: usize = 5;
+
+/// What a lent cell can hold.
+pub trait Cell: Copy {
+    const GUARD: Self;
+
+    fn bits(self) -> u64;
+}
+
+impl Cell for f32 {
+    // An ordinary number, so that a guard that is read does not show by being NaN or zero alone.
+    const GUARD: f32 = 1234.5;
+
+    fn bits(self) -> u64 {
+        u64::from(self.to_bits())
+    }
+}
+
+impl Cell for usize {
+    const GUARD: usize = 0x5ca1_ab1e_0ddb_a115;
+
+    fn bits(self) -> u64 {
+        self as u64
+    }
+}
+
+#[derive(Clone)]
+pub struct Lent<T> {
+    cells: Vec<T>,
+    null: bool,
+}
+
+impl<T: Cell> Lent<T> {
+    pub fn new(contents: &[T]) -> Self {
+        let mut cells = vec![T::GUARD; GUARDS];
+        cells.extend(contents);
+        cells.extend([T::GUARD; GUARDS]);
+        Lent { cells, null: false }
+    }
+
+    /// Nothing, lent as the null pointer.
+    pub fn null() -> Self {
+        Lent {
+            null: true,
+            ..Lent::new(&[])
+        }
+    }
+
+    /// One number, which holds the guard's pattern before the call.
+    pub fn number() -> Self {
+        Lent::new(&[T::GUARD])
+    }
+
+    pub fn len(&self) -> usize {
+        self.cells.len() - 2 * GUARDS
+    }
+
+    pub fn is_empty(&self) -> bool {
+        self.len() == 0
+    }
+
+    pub fn is_null(&self) -> bool {
+        self.null
+    }
+
+    pub fn contents(&self) -> &[T] {
+        &self.cells[GUARDS..GUARDS + self.len()]
+    }
+
+    pub fn contents_mut(&mut self) -> &mut [T] {
+        let end = GUARDS + self.len();
+        &mut self.cells[GUARDS..end]
+    }
+
+    pub fn pointer(&self) -> *const T {
+        if self.null {
+            ptr::null()
+        } else {
+            self.contents().as_ptr()
+        }
+    }
+
+    pub fn pointer_mut(&mut self) -> *mut T {
+        if self.null {
+            ptr::null_mut()
+        } else {
+            // From all cells, so that a write to a guard is seen and not lost.
+            self.cells[GUARDS..].as_mut_ptr()
+        }
+    }
+
+    /// The first cell, guards included, whose bits are others: its place, and both bits.
+    pub fn difference(&self, other: &Lent<T>) -> Option<(isize, u64, u64)> {
+        let pairs = self.cells.iter().zip(&other.cells);
+        let bits = pairs.map(|(a, b)| (a.bits(), b.bits()));
+        let (place, (a, b)) = bits.enumerate().find(|(_, (a, b))| a != b)?;
+        Some((place as isize - GUARDS as isize, a, b))
+    }
+}

@@ -110,7 +110,8 @@ pub extern "C" fn kan_loss(
     loss: &mut f32,
     carried: &mut usize,
 ) -> u32
-    ensures { λ r. ⌜ LossLinked (now (widths .entry)) (gridOf intervals lo hi) (now (model .entry)) (now (inputs .entry)) (now (targets .entry))
+    ensures { λ r. ⌜ LossLinked (now (widths .entry)) (gridOf intervals lo hi) (now (model .entry)) (now (inputs .entry))
+        (now (targets .entry))
         (now (first .entry)) (now (second .entry)) (now (loss .entry)) r
         (now (first .exit)) (now (second .exit)) (now (loss .exit)) (now (carried .exit)) ⌝ }
 {

@@ -27,7 +27,8 @@ fn outputs_fit(inputs: usize, w: usize, outputs: usize, v: usize) -> bool
 // The last layer's values, from the slice that holds them to the front of `outputs`.
 fn copy_outputs(layers: usize, v: usize, first: &[f32], second: &[f32], outputs: &mut [f32])
     requires { ⌜ (v ≤ length (now first)) × (v ≤ length (now second)) × (v ≤ length (now outputs)) ⌝ }
-    ensures { λ _. ⌜ now (outputs .exit) ≡ take v (holder layers (now (first .entry)) (now (second .entry))) ++ drop v (now (outputs .entry)) ⌝ }
+    ensures { λ _. ⌜ now (outputs .exit) ≡ take v (holder layers (now (first .entry)) (now (second .entry))) ++ drop v
+        (now (outputs .entry)) ⌝ }
 {
     if layers % 2 == 0 {
         floats::copy(&second[0..v], outputs);
@@ -49,7 +50,8 @@ fn predict_rows(
 ) -> Outcome
     requires { ⌜ Batched grid (now model) (now widths) (now inputs) (now first) (now second) (now outputs) rows ⌝ }
     ensures { λ r. ⌜ RowsDone (basisOf grid) (now (model .entry)) (now (widths .entry)) (now (inputs .entry)) rows
-        (now (first .entry)) (now (second .entry)) (now (outputs .entry)) r (now (first .exit)) (now (second .exit)) (now (outputs .exit)) ⌝ }
+        (now (first .entry)) (now (second .entry)) (now (outputs .entry)) r (now (first .exit)) (now (second .exit))
+        (now (outputs .exit)) ⌝ }
 {
     let layers = widths.len() - 1;
     let w = widths[0];
@@ -77,7 +79,8 @@ fn predict_sound(
 ) -> Outcome
     requires { ⌜ Fits grid (now model) (now widths) (now first) (now second) ⌝ }
     ensures { λ r. ⌜ BatchDone (basisOf grid) (now (model .entry)) (now (widths .entry)) (now (inputs .entry))
-        (now (first .entry)) (now (second .entry)) (now (outputs .entry)) r (now (first .exit)) (now (second .exit)) (now (outputs .exit)) ⌝ }
+        (now (first .entry)) (now (second .entry)) (now (outputs .entry)) r (now (first .exit)) (now (second .exit))
+        (now (outputs .exit)) ⌝ }
 {
     let layers = widths.len() - 1;
     let w = widths[0];
@@ -108,7 +111,8 @@ pub fn predict_batch(
     outputs: &mut [f32],
 ) -> Outcome
     ensures { λ r. ⌜ Predicted (basisOf grid) (now (widths .entry)) grid (now (model .entry)) (now (inputs .entry))
-        (now (first .entry)) (now (second .entry)) (now (outputs .entry)) r (now (first .exit)) (now (second .exit)) (now (outputs .exit)) ⌝ }
+        (now (first .entry)) (now (second .entry)) (now (outputs .entry)) r (now (first .exit)) (now (second .exit))
+        (now (outputs .exit)) ⌝ }
 {
     let checked = equip(widths, grid, model.len(), first.len(), second.len());
     match checked {

@@ -20,7 +20,8 @@ fn turn(
     second: &mut [f32],
 ) -> bool
     requires { ⌜ Turns grid (now params) w n (now first) (now second) ⌝ }
-    ensures { λ r. ⌜ Turned (basisOf grid) (now (params .entry)) l w n (now (first .entry)) (now (second .entry)) (now (first .exit)) (now (second .exit)) r ⌝ }
+    ensures { λ r. ⌜ Turned (basisOf grid) (now (params .entry)) l w n (now (first .entry)) (now (second .entry))
+        (now (first .exit)) (now (second .exit)) r ⌝ }
 {
     if l % 2 == 0 {
         layers::layer_forward(grid, params, &second[0..w], first, n);
@@ -40,7 +41,9 @@ fn run_layers(
     second: &mut [f32],
 ) -> bool
     requires { ⌜ Fits grid (now model) (now widths) (now first) (now second) ⌝ }
-    ensures { λ r. ⌜ Layered (basisOf grid) (now (model .entry)) (now (widths .entry)) (take (widthAt (now (widths .entry)) 0) (now (second .entry))) (now (first .entry)) (now (second .entry)) (now (first .exit)) (now (second .exit)) r ⌝ }
+    ensures { λ r. ⌜ Layered (basisOf grid) (now (model .entry)) (now (widths .entry))
+        (take (widthAt (now (widths .entry)) 0) (now (second .entry))) (now (first .entry)) (now (second .entry))
+        (now (first .exit)) (now (second .exit)) r ⌝ }
 {
     let layers = widths.len() - 1;
     let stride = grid.intervals + 5;
@@ -67,7 +70,8 @@ pub fn run_row(
     second: &mut [f32],
 ) -> u32
     requires { ⌜ Fits grid (now model) (now widths) (now first) (now second) ⌝ }
-    ensures { λ r. ⌜ Ran (basisOf grid) (now (model .entry)) (now (widths .entry)) (now (row .entry)) (now (first .entry)) (now (second .entry)) (now (first .exit)) (now (second .exit)) r ⌝ }
+    ensures { λ r. ⌜ Ran (basisOf grid) (now (model .entry)) (now (widths .entry)) (now (row .entry))
+        (now (first .entry)) (now (second .entry)) (now (first .exit)) (now (second .exit)) r ⌝ }
 {
     let fault = row_fault(row, widths[0], 14, 15);
     if fault != 0 {

@@ -166,7 +166,8 @@ returns-2 c =
 
 add-r : tie.Need-add-r Inv-loop μ-loop
 add-r c =
-    let start = c .before .before .before .before .before .before .before .before .before .before .before .before .before .before .before .before .before .before .before .before .before .before .before .before .before .before in
+    let half = c .before .before .before .before .before .before .before .before .before .before .before .before .before in
+    let start = half .before .before .before .before .before .before .before .before .before .before .before .before .before in
     omega (arith, start .fits .rows)
 
 loop-less : tie.Need-loop-less Inv-loop μ-loop

@@ -11,6 +11,11 @@ pub fn agrees(tag: u8, words: &[u64]) -> bool {
         b'U' => leaves::uniform_draws_agree(words),
         b'K' => leaves::knots_agree(words),
         b'B' => leaves::basis_agrees(words),
+        b'C' => call_cases::check_agrees(words),
+        b'I' => call_cases::initialise_agrees(words),
+        b'P' => call_cases::predict_agrees(words),
+        b'Q' => call_cases::drawn_predict_agrees(words),
+        b'L' => call_cases::loss_agrees(words),
         _ => false,
     }
 }

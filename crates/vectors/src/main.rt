@@ -1,5 +1,6 @@
-// Program: runs every case of two lists, the settled examples and the oracle's answers, against the proved crates, and
-// prints for each list how many cases of each tag agree. Its file `stdout` says that all do.
+// Program: runs every case of three lists, the settled examples of the leaves, the oracle's answers and the settled examples of
+// the public calls, against the proved crates, and prints for each list how many cases of each tag agree. Its file `stdout`
+// says that all do.
 mod cases;
 mod leaves;
 mod report;
@@ -77,4 +78,5 @@ fn run_file(name: &[u8], path: &[u8]) {
 fn main() {
     run_file(b"settled", b"settled.txt");
     run_file(b"oracle", b"oracle.txt");
+    run_file(b"calls", b"calls.txt");
 }

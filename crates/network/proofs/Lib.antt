@@ -5,3 +5,4 @@ pub mod Calls
 pub mod Errors
 pub mod Losses
 pub mod Passing
+pub mod Determined

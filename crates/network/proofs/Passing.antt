@@ -1,7 +1,7 @@
 -- A single forward pass from its parts. Assumes nothing.
 use mathlib.Core.Path.{_≡_, refl, sym, ap, _∙_}
 use mathlib.Core.Bool.{Bool, true, false, cond, not}
-use mathlib.Core.List.{List, [], _++_}
+use mathlib.Core.List.{List, [], _∷_, _++_}
 use Prim.Native.Nat.{ℕ, zero, suc, _+_, _-_, _%_, _≤_, _<_}
 use native.Mathlib.Omega.{arith}
 use lib.Dec.{eqb}
@@ -9,7 +9,6 @@ use lib.ListN.{length, take, drop, length-append, length-drop}
 use lib.Seq.{drop-drop, length-take-le}
 use lib.Ieee.{Float}
 use borrow.Rule.Slice.PartMut.{putMid}
-use borrow.Author.Tests.{eqb-true}
 use Rattle.floats.specs.Sums.{allFinite, zeros}
 use Rattle.floats.proofs.Loops.{put-rest, rest, tab-length}
 use Rattle.spline.specs.declared.Grid.{Grid}
@@ -18,11 +17,13 @@ use Rattle.rows.specs.Pass.{outputsOf}
 use Rattle.rows.specs.Turns.{holder, Ran}
 use Rattle.config.specs.declared.Refusal.{Refusal}
 use Rattle.config.specs.declared.Sizes.{Sizes}
+use Rattle.config.specs.declared.Checked.{Checked}
 use Rattle.config.specs.declared.Checked.the-variants.{Sound, Refused}
 use Rattle.network.specs.Admission.{equipped}
 use Rattle.network.specs.Predict.{outWidth}
-use Rattle.network.specs.Forward.{passRefusal, inFirst, unlessRefused, passOutputs, fronted, Forwarded}
-use Rattle.network.specs.Steps.{Past, Passed, sweptFrom, Swept}
+use Rattle.network.specs.Forward.{passRefusal, inFirst, unlessRefused, passOutputs, fronted, forwardOutputs, forwardSlice}
+use Rattle.network.specs.Forward.{forwardRefusal, forwardPart, forwardFirst, forwardSecond, Forwarded}
+use Rattle.network.specs.Steps.{Passed, sweptFrom, Swept}
 use Rattle.network.proofs.Admitted.{Equipped, equipped-sound}
 use Rattle.network.proofs.Rows.{outputs-length}
 
@@ -63,9 +64,23 @@ held-front : (ws : List ℕ) (n widest : ℕ) (s s₁ os : List Float) → take 
 unfolding fronted
 held-front ws n widest s s₁ os p q r = rw (p, r, q)
 
+-- ---- what is handed back
+take-front : (os : List Float) (rest : List Float) → take (length os) (os ++ rest) ≡ os
+take-front [] rest = refl
+take-front (o ∷ os) rest = ap (λ (l : List Float). o ∷ l) (take-front os rest)
+
+-- the front of the slice that the parity picks, of as many numbers as there are outputs, is the outputs
+held-part : (e : Checked) (here : Bool) (os a b : List Float)
+    → take (length (forwardOutputs e os)) (cond here (forwardSlice e here os a) (forwardSlice e (not here) os b)) ≡ forwardOutputs e os
+unfolding fronted
+held-part (Refused r) here os a b = refl
+held-part (Sound z) true os a b = take-front os _
+held-part (Sound z) false os a b = take-front os _
+
 -- ---- the whole pass
 module _ (B : Basis) (ws : List ℕ) (g : Grid) (ps xs a b : List Float) where
   pub not-begun : (r : Refusal) → equipped ws g (length ps) (length a) (length b) ≡ Refused r → Forwarded B ws g ps xs a b (r .number) 0 a b
+  unfolding forwardRefusal forwardPart forwardFirst forwardSecond
   not-begun r e = record {
     number = rw e;
     count = rw e;
@@ -87,7 +102,7 @@ module _ (B : Basis) (ws : List ℕ) (g : Grid) (ps xs a b : List Float) where
     finish : (n : ℕ) (os : List Float) → n ≤ s .widest → passOutputs B ps ws xs ≡ os → length os ≡ n
         → take n (holder (length ws - 1) a₁ b₁) ≡ os → Swept (length ws - 1) n (s .widest) a₁ b₁ a₂ b₂
         → Forwarded B ws g ps xs a b r n a₂ b₂
-    unfolding inFirst
+    unfolding inFirst forwardRefusal forwardPart forwardFirst forwardSecond
     finish n os h o l f t =
         let k = equipped-sound ws g (length ps) (length a) (length b) s ok in
         let pa : drop (s .widest) a₁ ≡ drop (s .widest) a = done .first (s .widest) (k .size .within) in
@@ -148,5 +163,13 @@ module _ (B : Basis) (ws : List ℕ) (g : Grid) (ps xs a b : List Float) where
     pub held-back : (r ≡ 0 → ⊥) → Swept (length ws - 1) 0 (s .widest) a₁ b₁ a₂ b₂ → Forwarded B ws g ps xs a b r 0 a₂ b₂
     unfolding passOutputs
     held-back z t =
-        finish 0 [] (omega arith)
-        (none (passRefusal B ps ws xs) (outputsOf B ps ws xs) (λ (q : passRefusal B ps ws xs ≡ 0). z (done .refusal ∙ q))) refl refl t
+        finish 0 [] (omega arith) (none (passRefusal B ps ws xs) (outputsOf B ps ws xs)
+        (λ (q : passRefusal B ps ws xs ≡ 0). z (done .refusal ∙ q))) refl refl t
+
+-- ---- the part that `pick` hands back
+pub part-is : (B : Basis) (ws : List ℕ) (g : Grid) (ps xs a b : List Float) (k n : ℕ) (a′ b′ : List Float)
+    → Forwarded B ws g ps xs a b k n a′ b′ → take n (cond (inFirst ws) a′ b′) ≡ forwardPart B ws g ps xs a b
+unfolding forwardPart forwardFirst forwardSecond
+part-is B ws g ps xs a b k n a′ b′ f =
+    rw (f .count, f .first, f .second)
+    (held-part (equipped ws g (length ps) (length a) (length b)) (inFirst ws) (passOutputs B ps ws xs) a b)

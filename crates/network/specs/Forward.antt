@@ -54,11 +54,25 @@ abbrev pub forwardSlice : Checked → Bool → List Float → List Float → Lis
 forwardSlice (Refused r) here os s = s
 forwardSlice (Sound z) here os s = fronted (held here os) (z .widest) s
 
--- the number k, how many outputs n there are, both slices, and that n lies within either
+-- ---- what a call leaves: the lent number, the part handed back, and both work slices
+module _ (B : Basis) (ws : List ℕ) (g : Grid) (ps xs a b : List Float) where
+  unfoldable pub forwardRefusal : ℕ
+  forwardRefusal = forwardNumber (equipped ws g (length ps) (length a) (length b)) (passRefusal B ps ws xs)
+
+  unfoldable pub forwardPart : List Float
+  forwardPart = forwardOutputs (equipped ws g (length ps) (length a) (length b)) (passOutputs B ps ws xs)
+
+  unfoldable pub forwardFirst : List Float
+  forwardFirst = forwardSlice (equipped ws g (length ps) (length a) (length b)) (inFirst ws) (passOutputs B ps ws xs) a
+
+  unfoldable pub forwardSecond : List Float
+  forwardSecond = forwardSlice (equipped ws g (length ps) (length a) (length b)) (not (inFirst ws)) (passOutputs B ps ws xs) b
+
+-- all but the handing back: the number k, how many outputs n there are, both slices, and that n lies within either
 pub record Forwarded (B : Basis) (ws : List ℕ) (g : Grid) (ps xs a b : List Float) (k n : ℕ) (a′ b′ : List Float) : Type 0 where
-  pub number : k ≡ forwardNumber (equipped ws g (length ps) (length a) (length b)) (passRefusal B ps ws xs)
-  pub count : n ≡ length (forwardOutputs (equipped ws g (length ps) (length a) (length b)) (passOutputs B ps ws xs))
-  pub first : a′ ≡ forwardSlice (equipped ws g (length ps) (length a) (length b)) (inFirst ws) (passOutputs B ps ws xs) a
-  pub second : b′ ≡ forwardSlice (equipped ws g (length ps) (length a) (length b)) (not (inFirst ws)) (passOutputs B ps ws xs) b
+  pub number : k ≡ forwardRefusal B ws g ps xs a b
+  pub count : n ≡ length (forwardPart B ws g ps xs a b)
+  pub first : a′ ≡ forwardFirst B ws g ps xs a b
+  pub second : b′ ≡ forwardSecond B ws g ps xs a b
   pub withinFirst : n ≤ length a′
   pub withinSecond : n ≤ length b′

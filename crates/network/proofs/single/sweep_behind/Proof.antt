@@ -1,8 +1,8 @@
 -- `network::sweep_behind` meets its contract. Assumes nothing.
 use Rattle.network.proofs.Passing.{swept-behind}
 use borrow.Author.Needs.{needs}
-use Rattle.network.proofs.forward.sweep_behind.Statement.{statement}
-use Rattle.network.proofs.forward.sweep_behind.Tie as tie
+use Rattle.network.proofs.single.sweep_behind.Statement.{statement}
+use Rattle.network.proofs.single.sweep_behind.Tie as tie
 
 sub-count : tie.Need-sub-count
 sub-count c = search needs
@@ -26,10 +26,7 @@ same-length : tie.Need-same-length
 same-length c = search needs
 
 returns : tie.Need-returns
-returns c =
-    let start = c .before .before .before .before .before in
-    let a = start .args in swept-behind (a .front) (a .widest) (a .s .now) _ (start .pre .0) (start .pre .1)
-    (c .before .before .clear .ensures)
+returns c = let a = c .before .before .before .before .before .args in swept-behind (a .front) (a .widest) (a .s .now) _ (c .before .before .before .before .before .pre .0) (c .before .before .before .before .before .pre .1) (c .before .before .clear .ensures)
 
 pub sweep-behind-spec : {M : Type 1} → statement M
 sweep-behind-spec =

@@ -2,8 +2,8 @@
 use mathlib.Core.Path.{refl, sym}
 use Rattle.network.specs.Forward.{inFirst}
 use borrow.Author.Needs.{needs}
-use Rattle.network.proofs.forward.lies_in_first.Statement.{statement}
-use Rattle.network.proofs.forward.lies_in_first.Tie as tie
+use Rattle.network.proofs.single.lies_in_first.Statement.{statement}
+use Rattle.network.proofs.single.lies_in_first.Tie as tie
 
 returns : tie.Need-returns
 unfolding inFirst

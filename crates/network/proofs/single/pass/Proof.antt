@@ -2,8 +2,8 @@
 use Rattle.network.proofs.Passing.{ran-passed, wild-passed}
 use mathlib.Core.Path.{sym, _∙_}
 use borrow.Author.Needs.{needs}
-use Rattle.network.proofs.forward.pass.Statement.{statement}
-use Rattle.network.proofs.forward.pass.Tie as tie
+use Rattle.network.proofs.single.pass.Statement.{statement}
+use Rattle.network.proofs.single.pass.Tie as tie
 
 all-finite-requires : tie.Need-all-finite-requires
 all-finite-requires c κs = search needs
@@ -18,11 +18,7 @@ same-length-2 : tie.Need-same-length-2
 same-length-2 c = search needs
 
 returns : tie.Need-returns
-returns c =
-    let at-run-row = c .before .before .before .before in
-    let at-if1 = at-run-row .before .before .before in
-    let at-all-finite = at-if1 .before in
-    ran-passed _ _ _ _ _ _ _ _ _ (sym (at-all-finite .all-finite .ensures) ∙ at-if1 .if1 .taken) (at-run-row .run-row .ensures)
+returns c = ran-passed _ _ _ _ _ _ _ _ _ (sym (c .before .before .before .before .before .before .before .before .all-finite .ensures) ∙ c .before .before .before .before .before .before .before .if1 .taken) (c .before .before .before .before .run-row .ensures)
 
 returns-2 : tie.Need-returns-2
 returns-2 c = wild-passed _ _ _ _ _ _ (sym (c .before .all-finite .ensures) ∙ c .if1 .left)

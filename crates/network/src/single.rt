@@ -3,10 +3,14 @@ ghost use mathlib.Core.Path.{_≡_};
 ghost use mathlib.Core.List.{_++_};
 ghost use Prim.Native.Nat.{_-_, _≤_};
 ghost use lib.ListN.{length, take, drop};
+ghost use base.Fml.{fsep};
+ghost use ghost.Atoms.{sem};
+ghost use denote.Slice.{finally};
+ghost use denote.Builtin as builtin;
 ghost use Rattle.floats.specs.Sums.{zeros};
 ghost use Rattle.layers.specs.Basis.{basisOf, Basis};
 ghost use Rattle.rows.specs.Turns.{Fits};
-ghost use Rattle.network.specs.Forward.{inFirst, Forwarded};
+ghost use Rattle.network.specs.Forward.{inFirst, forwardFirst, forwardSecond, forwardPart, forwardRefusal, Forwarded};
 ghost use Rattle.network.specs.Steps.{Passed, Swept};
 use crate::admission::equip;
 use config::Checked;
@@ -97,4 +101,32 @@ fn work(
             0
         }
     }
+}
+
+// One row through all layers. The part handed back lies in the first slice or in the second, by the number of layers, and is
+// empty where the lent number says why. `finally` says what either slice holds once the part is given up.
+pub fn forward<'a>(
+    number: &mut u32,
+    widths: &[usize],
+    grid: Grid,
+    model: &[f32],
+    row: &[f32],
+    first: &'a mut [f32],
+    second: &'a mut [f32],
+) -> &'a [f32]
+    ensures { λ r. sem 𝓤 H A (fsep
+        (finally builtin.f32 (first .entry .name)
+        (forwardFirst (basisOf grid) (now (widths .entry)) grid (now (model .entry)) (now (row .entry))
+        (now (first .entry)) (now (second .entry))))
+        (finally builtin.f32 (second .entry .name)
+        (forwardSecond (basisOf grid) (now (widths .entry)) grid (now (model .entry)) (now (row .entry))
+        (now (first .entry)) (now (second .entry)))))
+        ∗ ⌜ (now r ≡ forwardPart (basisOf grid) (now (widths .entry)) grid (now (model .entry)) (now (row .entry))
+        (now (first .entry)) (now (second .entry)))
+        × (now (number .exit) ≡ forwardRefusal (basisOf grid) (now (widths .entry)) grid (now (model .entry)) (now (row .entry))
+        (now (first .entry)) (now (second .entry))) ⌝ }
+{
+    let n = work(number, widths, grid, model, row, first, second);
+    let lies = lies_in_first(widths);
+    fronts::pick(lies, n, first, second)
 }

@@ -1,8 +1,8 @@
 -- `network::sweep_pass` meets its contract. Assumes nothing.
 use borrow.Author.Tests.{eq-eqb, ne-eqb}
 use borrow.Author.Needs.{needs}
-use Rattle.network.proofs.forward.sweep_pass.Statement.{statement}
-use Rattle.network.proofs.forward.sweep_pass.Tie as tie
+use Rattle.network.proofs.single.sweep_pass.Statement.{statement}
+use Rattle.network.proofs.single.sweep_pass.Tie as tie
 
 sweep-behind-requires : tie.Need-sweep-behind-requires
 sweep-behind-requires c κs = search needs
@@ -23,11 +23,7 @@ same-length-2 : tie.Need-same-length-2
 same-length-2 c = search needs
 
 returns : tie.Need-returns
-returns c =
-    let at-sweep-behind = c .before .before .before .before .before .before in
-    let at-if1 = at-sweep-behind .before .before in
-    let e = eq-eqb _ _ (at-if1 .if1 .taken) in record
-    { first = rw e (at-sweep-behind .sweep-behind .ensures); second = rw e (c .before .before .sweep-behind2 .ensures) }
+returns c = let e = eq-eqb _ _ (c .before .before .before .before .before .before .before .before .if1 .taken) in record { first = rw e (c .before .before .before .before .before .before .sweep-behind .ensures); second = rw e (c .before .before .sweep-behind2 .ensures) }
 
 same-length-3 : tie.Need-same-length-3
 same-length-3 c = search needs
@@ -36,11 +32,7 @@ same-length-4 : tie.Need-same-length-4
 same-length-4 c = search needs
 
 returns-2 : tie.Need-returns-2
-returns-2 c =
-    let at-sweep-behind3 = c .before .before .before .before .before .before in
-    let at-if1 = at-sweep-behind3 .before .before in
-    let e = ne-eqb _ _ (at-if1 .if1 .left) in record
-    { first = rw e (at-sweep-behind3 .sweep-behind3 .ensures); second = rw e (c .before .before .sweep-behind4 .ensures) }
+returns-2 c = let e = ne-eqb _ _ (c .before .before .before .before .before .before .before .before .if1 .left) in record { first = rw e (c .before .before .before .before .before .before .sweep-behind3 .ensures); second = rw e (c .before .before .sweep-behind4 .ensures) }
 
 pub sweep-pass-spec : {M : Type 1} → statement M
 sweep-pass-spec =

@@ -3,9 +3,12 @@
 mod calls;
 mod cursor;
 mod read;
+mod single;
 
 pub use calls::check_agrees;
 pub use calls::drawn_predict_agrees;
 pub use calls::initialise_agrees;
 pub use calls::loss_agrees;
 pub use calls::predict_agrees;
+pub use single::drawn_forward_agrees;
+pub use single::forward_agrees;

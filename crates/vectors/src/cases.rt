@@ -16,6 +16,8 @@ pub fn agrees(tag: u8, words: &[u64]) -> bool {
         b'P' => call_cases::predict_agrees(words),
         b'Q' => call_cases::drawn_predict_agrees(words),
         b'L' => call_cases::loss_agrees(words),
+        b'F' => call_cases::forward_agrees(words),
+        b'G' => call_cases::drawn_forward_agrees(words),
         _ => false,
     }
 }

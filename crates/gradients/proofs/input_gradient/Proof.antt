@@ -1,0 +1,129 @@
+-- `gradients::input_gradient` meets its contract: after o turns the sum has o outputs. Assumes nothing.
+use borrow.Author.Needs.{needs}
+use mathlib.Core.Path.{_≡_, ap, _∙_}
+use mathlib.Core.List.{List}
+use Prim.Native.Nat.{ℕ, _+_, _*_, _-_, _≤_, _<_}
+use native.Mathlib.Omega.{arith}
+use lib.ListN.{length}
+use Rattle.floats.specs.Sums.{sumTo, sumFrom}
+use Rattle.floats.proofs.Loops.{sum-none, sum-more, rest, rest-length}
+use Rattle.layers.specs.Basis.{basisOf}
+use Rattle.gradients.specs.Gradient.{backOf, backTerm}
+use Rattle.gradients.specs.Steps.{backWith}
+use Rattle.gradients.proofs.Rooms.{edge-room, grow}
+use Rattle.gradients.proofs.input_gradient.Statement.{statement}
+use Rattle.gradients.proofs.input_gradient.Tie as tie
+
+-- the turn's edge lies within the parameters
+inside : (g o n i w L : ℕ) → o < n → (g ≤ 250000) × (i < w) × (n * (w * (g + 5)) ≤ L)
+    → ((o * w + i) * (g + 5) + (g + 5) ≤ L) × (o * w + i ≤ (o * w + i) * (g + 5))
+inside g o n i w L h p = (edge-room o n i w (g + 5) L h (p .1) (p .2), grow (o * w + i) (g + 5) (omega arith))
+
+abbrev Inv-loop : tie.InvT-loop
+Inv-loop grid params inputs ups i stride w x rise gradient₀ o₀ o-end gradient o =
+    (o ≤ length ups) × (gradient ≡ sumTo (backTerm (basisOf grid) params (length inputs) inputs ups i) o)
+
+abbrev μ-loop : tie.MeasureT-loop
+μ-loop grid params inputs ups i stride w x rise gradient₀ o₀ o-end gradient o = length ups - o
+
+add-stride : tie.Need-add-stride Inv-loop μ-loop
+add-stride c = omega arith
+
+mul-x : tie.Need-mul-x Inv-loop μ-loop
+mul-x c = search needs
+
+shared-slice-read-x : tie.Need-shared-slice-read-x Inv-loop μ-loop
+shared-slice-read-x c = omega arith
+
+silu-derivative-requires : tie.Need-silu-derivative-requires Inv-loop μ-loop
+silu-derivative-requires c κs = search needs
+
+loop-holds : tie.Need-loop-holds Inv-loop μ-loop
+loop-holds c = (omega arith, sum-none _ _)
+
+mul-edge : tie.Need-mul-edge Inv-loop μ-loop
+mul-edge c =
+    let entry = c .before .before .before .before .before .before .before .before in
+    omega (arith, inside _ _ _ _ _ _ (c .loop-test .taken) (entry .pre))
+
+add-edge : tie.Need-add-edge Inv-loop μ-loop
+add-edge c =
+    let entry = c .before .before .before .before .before .before .before .before in
+    omega (arith, inside _ _ _ _ _ _ (c .loop-test .taken) (entry .pre))
+
+mul-at : tie.Need-mul-at Inv-loop μ-loop
+mul-at c =
+    let entry = c .before .before .before .before .before .before .before .before in
+    omega (arith, inside _ _ _ _ _ _ (c .loop-test .taken) (entry .pre))
+
+mul-back : tie.Need-mul-back Inv-loop μ-loop
+mul-back c =
+    let entry = c .before .before .before .before .before .before .before .before in
+    omega (arith, inside _ _ _ _ _ _ (c .loop-test .taken) (entry .pre))
+
+sub-back : tie.Need-sub-back Inv-loop μ-loop
+sub-back c =
+    let entry = c .before .before .before .before .before .before .before .before in
+    omega (arith, inside _ _ _ _ _ _ (c .loop-test .taken) (entry .pre))
+
+part-back-start : tie.Need-part-back-start Inv-loop μ-loop
+part-back-start c =
+    let entry = c .before .before .before .before .before .before .before .before in
+    omega (arith, inside _ _ _ _ _ _ (c .loop-test .taken) (entry .pre))
+
+part-back-end : tie.Need-part-back-end Inv-loop μ-loop
+part-back-end c =
+    let entry = c .before .before .before .before .before .before .before .before in
+    omega (arith, inside _ _ _ _ _ _ (c .loop-test .taken) (entry .pre))
+
+mul-back-2 : tie.Need-mul-back-2 Inv-loop μ-loop
+mul-back-2 c = omega arith
+
+shared-slice-read-back : tie.Need-shared-slice-read-back Inv-loop μ-loop
+shared-slice-read-back c = omega arith
+
+back-requires : tie.Need-back-requires Inv-loop μ-loop
+back-requires c κs =
+    let entry = c .before .before .before .before .before .before .before .before .before .before in
+    (entry .pre .0, rw rest-length (omega (arith, inside _ _ _ _ _ _ (c .before .before .loop-test .taken) (entry .pre))))
+
+add-o : tie.Need-add-o Inv-loop μ-loop
+add-o c = omega arith
+
+loop-less : tie.Need-loop-less Inv-loop μ-loop
+loop-less c = omega arith
+
+loop-again : tie.Need-loop-again Inv-loop μ-loop
+unfolding backOf backWith
+loop-again c =
+    let head = c .before .before .before .before in
+    (omega arith, sum-more _ _ _ _ _ (head .loop .inv .1) (c .back .ensures ∙ rw (rest, head .before .silu-derivative .ensures)))
+
+returns : tie.Need-returns Inv-loop μ-loop
+returns c = c .before .loop .inv .1 ∙ ap (sumTo _) (omega arith)
+
+pub input-gradient-spec : {M : Type 1} → statement M
+input-gradient-spec =
+    tie.close
+    (tie.spec
+    Inv-loop
+    μ-loop
+    add-stride
+    mul-x
+    shared-slice-read-x
+    silu-derivative-requires
+    loop-holds
+    mul-edge
+    add-edge
+    mul-at
+    mul-back
+    sub-back
+    part-back-start
+    part-back-end
+    mul-back-2
+    shared-slice-read-back
+    back-requires
+    add-o
+    loop-less
+    loop-again
+    returns)

@@ -1,0 +1,2 @@
+pub mod Gradient
+pub mod Steps

@@ -4,3 +4,4 @@ pub mod Totals
 pub mod Folded
 pub mod Sized
 pub mod Examples
+pub mod Determined

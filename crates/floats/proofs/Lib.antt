@@ -3,3 +3,4 @@ pub mod Zeros
 pub mod Sums
 pub mod Loops
 pub mod Casts
+pub mod Determined

@@ -16,24 +16,24 @@ use denote.Builtin.{f32}
 use denote.Slice.{finally}
 use denote.Ref.{now}
 use denote.Steps.{heard}
-use denote.Triple.Clauses.{Ended, Lasts, AtExit, atExit}
+use denote.Triple.Clauses.{Lasts, atExit}
 use denote.Triple.Entry.{Args, Res}
+use Rattle.floats.proofs.Determined.{Determined}
 use Rattle.layers.specs.Basis.{basisOf}
 use Rattle.network.specs.Forward.{forwardRefusal, forwardPart, forwardFirst, forwardSecond}
+use Rattle.network.proofs.start.initialise as initialise
+use Rattle.network.proofs.start.initialise.Reads as initialise-reads
 use Rattle.network.proofs.predict.predict_batch as predict
 use Rattle.network.proofs.predict.predict_batch.Reads as predict-reads
 use Rattle.network.proofs.loss.mse_loss as loss
 use Rattle.network.proofs.loss.mse_loss.Reads as loss-reads
 use Rattle.network.proofs.single.forward as forward
 
--- what a contract says of arguments, a result, and what is seen at exit
-abbrev pub Says : Ended → Type 1
-Says E = (κs : Lfts (E .signature .lifetimes)) → Args (E .signature) κs → Res (E .signature) κs → AtExit E κs → Type 0
-
--- any two outcomes that it allows at the same arguments coincide: the result, and the last value of each `&mut` that is not spent
-abbrev pub Determined : (E : Ended) → Says E → Type 0
-Determined E P = (κs : Lfts (E .signature .lifetimes)) (a : Args (E .signature) κs) (r r′ : Res (E .signature) κs) (w w′ : Lasts E κs a)
-    → P κs a r (atExit E κs a w) → P κs a r′ (atExit E κs a w′) → (r ≡ r′) × (w ≡ w′)
+-- the answer and the model
+pub initialise-determined : Determined initialise.ended initialise-reads.Post
+initialise-determined κs a r r′ w w′ p q =
+    let model = p .model ∙ sym (q .model) in
+    (p .answer ∙ sym (q .answer), (λ i. (tt, (tt, (tt, (model i, tt))))))
 
 -- the answer, both work slices and the outputs
 pub predict-determined : Determined predict.ended predict-reads.Post

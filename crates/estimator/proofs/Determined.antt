@@ -1,0 +1,41 @@
+-- "Each public call's statement determines its answer and the final contents of all memory lent to it .. that any two outcomes
+-- allowed by it coincide is itself shown" (document 01): the number
+-- and every lent cell, in the order of the parameters.
+use mathlib.Core.Path.{_≡_, sym, _∙_}
+use Rattle.floats.proofs.Determined.{Determined}
+use Rattle.estimator.proofs.kan_check as check
+use Rattle.estimator.proofs.kan_check.Reads as check-reads
+use Rattle.estimator.proofs.kan_initialise as initialise
+use Rattle.estimator.proofs.kan_initialise.Reads as initialise-reads
+use Rattle.estimator.proofs.kan_predict as predict
+use Rattle.estimator.proofs.kan_predict.Reads as predict-reads
+use Rattle.estimator.proofs.kan_loss as loss
+use Rattle.estimator.proofs.kan_loss.Reads as loss-reads
+
+pub check-determined : Determined check.ended check-reads.Post
+check-determined κs a r r′ w w′ p q =
+    let parameters = p .parameters ∙ sym (q .parameters) in
+    let carried = p .carried ∙ sym (q .carried) in
+    (p .number ∙ sym (q .number), (λ i. (tt, (tt, (tt, (tt, (parameters i, (carried i, tt))))))))
+
+pub initialise-determined : Determined initialise.ended initialise-reads.Post
+initialise-determined κs a r r′ w w′ p q =
+    let model = p .model ∙ sym (q .model) in
+    let carried = p .carried ∙ sym (q .carried) in
+    (p .number ∙ sym (q .number), (λ i. (tt, (tt, (tt, (tt, (tt, (model i, (carried i, tt)))))))))
+
+pub predict-determined : Determined predict.ended predict-reads.Post
+predict-determined κs a r r′ w w′ p q =
+    let first = p .first ∙ sym (q .first) in
+    let second = p .second ∙ sym (q .second) in
+    let outputs = p .outputs ∙ sym (q .outputs) in
+    let carried = p .carried ∙ sym (q .carried) in
+    (p .number ∙ sym (q .number), (λ i. (tt, (tt, (tt, (tt, (tt, (tt, (first i, (second i, (outputs i, (carried i, tt))))))))))))
+
+pub loss-determined : Determined loss.ended loss-reads.Post
+loss-determined κs a r r′ w w′ p q =
+    let first = p .first ∙ sym (q .first) in
+    let second = p .second ∙ sym (q .second) in
+    let loss = p .loss ∙ sym (q .loss) in
+    let carried = p .carried ∙ sym (q .carried) in
+    (p .number ∙ sym (q .number), (λ i. (tt, (tt, (tt, (tt, (tt, (tt, (tt, (first i, (second i, (loss i, (carried i, tt)))))))))))))

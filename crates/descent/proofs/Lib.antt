@@ -1,0 +1,7 @@
+pub mod Checked
+pub mod Gathered
+pub mod Places
+pub mod Slots
+pub mod Spans
+pub mod Ups
+pub mod Values

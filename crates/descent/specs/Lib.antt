@@ -1,0 +1,3 @@
+pub mod Accumulate
+pub mod Calls
+pub mod Steps

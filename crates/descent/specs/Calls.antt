@@ -7,17 +7,11 @@ use lib.ListN.{length, drop}
 use lib.Ieee.{Float}
 use Rattle.spline.specs.declared.Grid.{Grid}
 use Rattle.layers.specs.Basis.{Basis}
-use Rattle.layers.specs.Widths.{widthAt, paramsTo, widthsTo}
+use Rattle.layers.specs.Widths.{inputWidth, outputWidth, widthAt, paramsTo, widthsTo}
 use Rattle.rows.specs.Batch.{rowsIn, rowAt}
 use Rattle.descent.specs.Accumulate.{allPass, gathered, movesFinite, movedOf}
 
--- the first and the last width, and the number of rows
-abbrev pub inputWidth : List ℕ → ℕ
-inputWidth ws = widthAt ws 0
-
-abbrev pub outputWidth : List ℕ → ℕ
-outputWidth ws = widthAt ws (length ws - 1)
-
+-- the number of rows
 abbrev pub rowsOf : List ℕ → List Float → ℕ
 rowsOf ws xs = rowsIn (length xs) (inputWidth ws)
 

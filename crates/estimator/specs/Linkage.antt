@@ -15,7 +15,7 @@ use Rattle.config.specs.Config.{checkOf, numberOf, carriedOf, outcomeNumberOf, 
 use Rattle.network.specs.declared.loss.Loss.{Loss}
 use Rattle.network.specs.declared.loss.Loss.the-variants.{Mean, Refused as Not}
 use Rattle.initial.specs.Initial.{modelInitial}
-use Rattle.network.specs.Admission.{admitted, equipped, swept, answered, written}
+use Rattle.admission.specs.Admission.{admitted, equipped, swept, answered, written}
 use Rattle.network.specs.Predict.{predictOutcome, predictWritten}
 use Rattle.network.specs.Loss.{lossNumber, lossOf, lossAnswer}
 

@@ -12,10 +12,10 @@ use Rattle.config.specs.declared.Sizes.{Sizes}
 use Rattle.config.specs.declared.Checked.the-variants.{Sound, Refused}
 use Rattle.config.specs.declared.Outcome.{Outcome}
 use Rattle.config.specs.declared.Outcome.the-variants.{Refused as Not}
-use Rattle.network.specs.Admission.{equipped, swept}
+use Rattle.admission.specs.Admission.{equipped, swept}
 use Rattle.network.specs.Predict.{Predicted}
 use Rattle.network.specs.Steps.{BatchDone}
-use Rattle.network.proofs.Admitted.{Equipped, equipped-sound, sweep}
+use Rattle.admission.proofs.Admitted.{Equipped, equipped-sound, sweep}
 
 module _ (B : Basis) (ws : List ℕ) (g : Grid) (ps xs a b ys : List Float) where
   pub predict-refused : (r : Refusal) → equipped ws g (length ps) (length a) (length b) ≡ Refused r

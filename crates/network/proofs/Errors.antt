@@ -13,14 +13,15 @@ use Rattle.floats.specs.Binary32.{zero32}
 use Rattle.floats.specs.Sums.{at}
 use Rattle.floats.proofs.Loops.{front, front-length}
 use Rattle.layers.specs.Basis.{Basis}
+use Rattle.layers.specs.Widths.{inputWidth, outputWidth}
 use Rattle.rows.specs.Pass.{nodesFinite, rowFault, rowRefusal}
 use Rattle.rows.specs.Batch.{rowAt, rowFaultAt}
-use Rattle.rows.specs.Turns.{holder, Ran}
+use Rattle.rows.specs.Turns.{Past, holder, Ran}
 use Rattle.network.specs.declared.loss.Sum.{Sum}
 use Rattle.network.specs.declared.loss.Sum.the-variants.{Of, Stopped}
-use Rattle.network.specs.Predict.{inWidth, outWidth, outputsAt}
+use Rattle.network.specs.Predict.{outputsAt}
 use Rattle.network.specs.Loss.{onSum, addError, errorsTo, lossTo}
-use Rattle.network.specs.Steps.{Past, RowsSummed}
+use Rattle.network.specs.Steps.{RowsSummed}
 
 pub errors-none : (s : Float) (os ts : List Float) → errorsTo s os ts 0 ≡ Of s
 unfolding errorsTo
@@ -45,7 +46,7 @@ front-errors s v l ts h = rw (front-length v l h) (ap (λ (os : List Float). err
 
 -- ---- row by row
 -- a row that passed the batch's checks is refused with 20 or not at all
-pub only-20 : (B : Basis) (ps : List Float) (ws : List ℕ) (xs : List Float) → rowFault (inWidth ws) 14 15 xs ≡ 0
+pub only-20 : (B : Basis) (ps : List Float) (ws : List ℕ) (xs : List Float) → rowFault (inputWidth ws) 14 15 xs ≡ 0
     → rowRefusal B ps ws xs ≡ cond (nodesFinite B ps ws xs) 0 20
 unfolding rowRefusal
 only-20 B ps ws xs e = rw e
@@ -67,18 +68,18 @@ module _ (B : Basis) (ps : List Float) (ws : List ℕ) (xs ts : List Float) wher
 
   -- row r, run with the number k
   module _ (r k : ℕ) (z : Float) (a b a' b' : List Float) (so-far : lossTo B ps ws xs ts r ≡ Of z)
-      (sound : rowFaultAt (inWidth ws) 14 15 xs r ≡ 0)
-      (ran : Ran B ps ws (rowAt xs (inWidth ws) r) a b a' b' k) where
-    cases : ((k ≡ 0 → nodesFinite B ps ws (rowAt xs (inWidth ws) r) ≡ true)
-        × ((k ≡ 0 → ⊥) → (nodesFinite B ps ws (rowAt xs (inWidth ws) r) ≡ false) × (k ≡ 20)))
-    cases = by-refusal (nodesFinite B ps ws (rowAt xs (inWidth ws) r)) k (ran .refusal ∙ only-20 B ps ws (rowAt xs (inWidth ws) r) sound)
+      (sound : rowFaultAt (inputWidth ws) 14 15 xs r ≡ 0)
+      (ran : Ran B ps ws (rowAt xs (inputWidth ws) r) a b a' b' k) where
+    cases : ((k ≡ 0 → nodesFinite B ps ws (rowAt xs (inputWidth ws) r) ≡ true)
+        × ((k ≡ 0 → ⊥) → (nodesFinite B ps ws (rowAt xs (inputWidth ws) r) ≡ false) × (k ≡ 20)))
+    cases = by-refusal (nodesFinite B ps ws (rowAt xs (inputWidth ws) r)) k (ran .refusal ∙ only-20 B ps ws (rowAt xs (inputWidth ws) r) sound)
 
     pub row-stops : (k ≡ 0 → ⊥) → lossTo B ps ws xs ts (r + 1) ≡ Stopped k
     unfolding lossTo
     row-stops n = let c = cases .1 n in rw (add-one r, so-far, c .0) (sym (ap Stopped (c .1)))
 
-    pub row-adds : k ≡ 0 → lossTo B ps ws xs ts (r + 1) ≡ errorsTo z (take (outWidth ws) (holder (length ws - 1) a' b'))
-        (rowAt ts (outWidth ws) r) (outWidth ws)
+    pub row-adds : k ≡ 0 → lossTo B ps ws xs ts (r + 1) ≡ errorsTo z (take (outputWidth ws) (holder (length ws - 1) a' b'))
+        (rowAt ts (outputWidth ws) r) (outputWidth ws)
     unfolding lossTo
     row-adds e = rw (add-one r, so-far, cases .0 e, ran .outputs e)
 
@@ -97,7 +98,7 @@ module _ (B : Basis) (ps : List Float) (ws : List ℕ) (xs ts a₀ b₀ : List F
 
   pub row-added : (r k : ℕ) (z z' : Float) (a b a' b' : List Float) → length a' ≡ length a → length b' ≡ length b
       → Adding B ps ws xs ts a₀ b₀ r z a b
-      → Ran B ps ws (rowAt xs (inWidth ws) r) a b a' b' k → lossTo B ps ws xs ts (r + 1) ≡ Of z'
+      → Ran B ps ws (rowAt xs (inputWidth ws) r) a b a' b' k → lossTo B ps ws xs ts (r + 1) ≡ Of z'
       → Adding B ps ws xs ts a₀ b₀ (r + 1) z' a' b'
   row-added r k z z' a b a' b' la lb g t e = record {
     value = e;
@@ -108,7 +109,7 @@ module _ (B : Basis) (ps : List Float) (ws : List ℕ) (xs ts a₀ b₀ : List F
   }
 
   pub sum-stops : (r k n rows : ℕ) (z : Float) (a b a' b' : List Float) → r < rows → Adding B ps ws xs ts a₀ b₀ r z a b
-      → Ran B ps ws (rowAt xs (inWidth ws) r) a b a' b' k → lossTo B ps ws xs ts (r + 1) ≡ Stopped n
+      → Ran B ps ws (rowAt xs (inputWidth ws) r) a b a' b' k → lossTo B ps ws xs ts (r + 1) ≡ Stopped n
       → RowsSummed B ps ws xs ts rows a₀ b₀ (Stopped n) a' b'
   sum-stops r k n rows z a b a' b' h g t e = record {
     answer = sym (loss-stay B ps ws xs ts n (r + 1) rows (omega arith) e);

@@ -1,6 +1,5 @@
 pub mod Outputs
 pub mod Rows
-pub mod Admitted
 pub mod Calls
 pub mod Errors
 pub mod Losses

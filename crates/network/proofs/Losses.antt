@@ -9,6 +9,7 @@ use Rattle.floats.specs.Binary32.{_⊘_, whole32}
 use Rattle.floats.specs.Sums.{allFinite, zeros}
 use Rattle.spline.specs.declared.Grid.{Grid}
 use Rattle.layers.specs.Basis.{Basis}
+use Rattle.layers.specs.Widths.{inputWidth, outputWidth}
 use Rattle.rows.specs.Batch.{rowsIn, batchFault, SoundBatch}
 use Rattle.config.specs.declared.Refusal.{Refusal}
 use Rattle.config.specs.declared.Sizes.{Sizes}
@@ -16,11 +17,10 @@ use Rattle.config.specs.declared.Checked.the-variants.{Sound, Refused}
 use Rattle.network.specs.declared.loss.Sum.the-variants.{Of, Stopped}
 use Rattle.network.specs.declared.loss.Loss.{Loss}
 use Rattle.network.specs.declared.loss.Loss.the-variants.{Mean, Refused as Not}
-use Rattle.network.specs.Admission.{equipped}
-use Rattle.network.specs.Predict.{inWidth, outWidth}
+use Rattle.admission.specs.Admission.{equipped}
 use Rattle.network.specs.Loss.{refuseLoss, soundBatch, meanOf, lossTo, lossOf, Lost}
 use Rattle.network.specs.Steps.{RowsSummed, LossDone}
-use Rattle.network.proofs.Admitted.{equipped-sound, sweep}
+use Rattle.admission.proofs.Admitted.{equipped-sound, sweep}
 
 module _ (B : Basis) (ps : List Float) (ws : List ℕ) (xs ts a b : List Float) where
   unmoved : (r : Loss) → r ≡ lossOf B ps ws xs ts → LossDone B ps ws xs ts a b r a b
@@ -34,26 +34,26 @@ module _ (B : Basis) (ps : List Float) (ws : List ℕ) (xs ts a b : List Float) 
   faulty zero l h = absurd (h refl)
   faulty (suc n) l h = refl
 
-  pub loss-fault : (r : Loss) (n : ℕ) → r ≡ refuseLoss n → allFinite ps ≡ true → n ≡ batchFault (inWidth ws) (outWidth ws) xs ts
+  pub loss-fault : (r : Loss) (n : ℕ) → r ≡ refuseLoss n → allFinite ps ≡ true → n ≡ batchFault (inputWidth ws) (outputWidth ws) xs ts
       → (n ≡ 0 → ⊥)
       → LossDone B ps ws xs ts a b r a b
   unfolding lossOf
   loss-fault r n p e q h =
-      let rows = rowsIn (length xs) (inWidth ws) in
-      unmoved r (p ∙ faulty n (meanOf (lossTo B ps ws xs ts rows) (rows * outWidth ws)) h ∙ sym (rw (e, ← q)))
+      let rows = rowsIn (length xs) (inputWidth ws) in
+      unmoved r (p ∙ faulty n (meanOf (lossTo B ps ws xs ts rows) (rows * outputWidth ws)) h ∙ sym (rw (e, ← q)))
 
-  module _ (rows : ℕ) (a' b' : List Float) (finite : allFinite ps ≡ true) (sound : batchFault (inWidth ws) (outWidth ws) xs ts ≡ 0)
-      (count : rows ≡ rowsIn (length xs) (inWidth ws)) where
+  module _ (rows : ℕ) (a' b' : List Float) (finite : allFinite ps ≡ true) (sound : batchFault (inputWidth ws) (outputWidth ws) xs ts ≡ 0)
+      (count : rows ≡ rowsIn (length xs) (inputWidth ws)) where
     pub loss-stopped : (r : Loss) (n : ℕ) → r ≡ refuseLoss n → RowsSummed B ps ws xs ts rows a b (Stopped n) a' b'
         → LossDone B ps ws xs ts a b r a' b'
     unfolding lossOf
     loss-stopped r n p d = record { answer = p ∙ sym (rw (finite, sound, ← count, ← d .answer)); first = d .first; second = d .second }
 
-    pub loss-mean : (z : Float) → SoundBatch (inWidth ws) (outWidth ws) xs ts → RowsSummed B ps ws xs ts rows a b (Of z) a' b'
+    pub loss-mean : (z : Float) → SoundBatch (inputWidth ws) (outputWidth ws) xs ts → RowsSummed B ps ws xs ts rows a b (Of z) a' b'
         → LossDone B ps ws xs ts a b (Mean (z ⊘ whole32 (length ts))) a' b'
     unfolding lossOf
     loss-mean z s d =
-        let many : length ts ≡ rows * outWidth ws = s .wholeTargets ∙ ap (λ (k : ℕ). k * outWidth ws) (sym (s .sameRows) ∙ sym count) in
+        let many : length ts ≡ rows * outputWidth ws = s .wholeTargets ∙ ap (λ (k : ℕ). k * outputWidth ws) (sym (s .sameRows) ∙ sym count) in
         record {
           answer = ap (λ (k : ℕ). Mean (z ⊘ whole32 k)) many ∙ sym (rw (finite, sound, ← count, ← d .answer));
           first = d .first;

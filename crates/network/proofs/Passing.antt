@@ -13,18 +13,18 @@ use Rattle.floats.specs.Sums.{allFinite, zeros}
 use Rattle.floats.proofs.Loops.{put-rest, rest, tab-length}
 use Rattle.spline.specs.declared.Grid.{Grid}
 use Rattle.layers.specs.Basis.{Basis}
+use Rattle.layers.specs.Widths.{outputWidth}
 use Rattle.rows.specs.Pass.{outputsOf}
 use Rattle.rows.specs.Turns.{holder, Ran}
 use Rattle.config.specs.declared.Refusal.{Refusal}
 use Rattle.config.specs.declared.Sizes.{Sizes}
 use Rattle.config.specs.declared.Checked.{Checked}
 use Rattle.config.specs.declared.Checked.the-variants.{Sound, Refused}
-use Rattle.network.specs.Admission.{equipped}
-use Rattle.network.specs.Predict.{outWidth}
+use Rattle.admission.specs.Admission.{equipped}
 use Rattle.network.specs.Forward.{passRefusal, inFirst, unlessRefused, passOutputs, fronted, forwardOutputs, forwardSlice}
 use Rattle.network.specs.Forward.{forwardRefusal, forwardPart, forwardFirst, forwardSecond, Forwarded}
 use Rattle.network.specs.Steps.{Passed, sweptFrom, Swept}
-use Rattle.network.proofs.Admitted.{Equipped, equipped-sound}
+use Rattle.admission.proofs.Admitted.{Equipped, equipped-sound}
 use Rattle.network.proofs.Rows.{outputs-length}
 
 -- ---- 11 and the row
@@ -147,7 +147,7 @@ module _ (B : Basis) (ws : List ℕ) (g : Grid) (ps xs a b : List Float) where
     none zero os e = absurd (e refl)
     none (suc n) os e = refl
 
-    pub passed-through : (n : ℕ) → n ≡ outWidth ws → r ≡ 0 → Swept (length ws - 1) n (s .widest) a₁ b₁ a₂ b₂
+    pub passed-through : (n : ℕ) → n ≡ outputWidth ws → r ≡ 0 → Swept (length ws - 1) n (s .widest) a₁ b₁ a₂ b₂
         → Forwarded B ws g ps xs a b r n a₂ b₂
     unfolding passOutputs
     passed-through n e z t =

@@ -14,21 +14,21 @@ use Rattle.floats.proofs.Loops.{flat-none, part-more, rest}
 use Rattle.spline.specs.declared.Grid.{Grid}
 use Rattle.layers.specs.Basis.{Basis}
 use Rattle.layers.specs.Layer.{layerOf}
-use Rattle.layers.specs.Widths.{widthAt, paramsTo}
+use Rattle.layers.specs.Widths.{inputWidth, outputWidth, widthAt, paramsTo}
 use Rattle.rows.specs.Pass.{nodesOf, outputsOf, rowRefusal}
 use Rattle.rows.specs.Batch.{rowsIn, rowAt, firstFault, doneTo}
-use Rattle.rows.specs.Turns.{holder, Fits, Ran}
+use Rattle.rows.specs.Turns.{Past, holder, Fits, Ran}
 use Rattle.rows.proofs.Batches.{first-none, first-more, first-stop, done-all, done-stop}
 use Rattle.rows.proofs.Passes.{layer-length}
 use Rattle.config.specs.declared.Outcome.{Outcome}
 use Rattle.config.specs.declared.Outcome.the-variants.{Done}
-use Rattle.network.specs.Admission.{refusedWith}
-use Rattle.network.specs.Predict.{inWidth, outWidth, refusalAt, outputsAt, stopAt, rowsOutcome, rowsWritten}
+use Rattle.admission.specs.Admission.{refusedWith}
+use Rattle.network.specs.Predict.{refusalAt, outputsAt, stopAt, rowsOutcome, rowsWritten}
 use Rattle.network.specs.Predict.{outputsFit, predictOutcome, predictWritten}
-use Rattle.network.specs.Steps.{Past, RowsDone, BatchDone}
+use Rattle.network.specs.Steps.{RowsDone, BatchDone}
 
 pub outputs-length : (B : Basis) (ps : List Float) (ws : List ℕ) (xs : List Float) → 2 ≤ length ws
-    → length (outputsOf B ps ws xs) ≡ outWidth ws
+    → length (outputsOf B ps ws xs) ≡ outputWidth ws
 unfolding nodesOf
 outputs-length B ps ws xs h = go (length ws - 1) (omega arith)
   where
@@ -51,7 +51,7 @@ fits-moved g ps ws a₀ b₀ a b f p q = record {
 
 pub record Going (B : Basis) (ps : List Float) (ws : List ℕ) (xs a₀ b₀ ys₀ : List Float) (r : ℕ) (a b ys : List Float) : Type 0 where
   pub sound : firstFault (refusalAt B ps ws xs) r ≡ 0
-  pub outputs : ys ≡ flatTo (outputsAt B ps ws xs) r ++ drop (r * outWidth ws) ys₀
+  pub outputs : ys ≡ flatTo (outputsAt B ps ws xs) r ++ drop (r * outputWidth ws) ys₀
   pub sizeA : length a ≡ length a₀
   pub sizeB : length b ≡ length b₀
   pub sizeY : length ys ≡ length ys₀
@@ -62,7 +62,7 @@ module _ (B : Basis) (ps : List Float) (ws : List ℕ) (xs a₀ b₀ ys₀ : Lis
   pub before-first : Going B ps ws xs a₀ b₀ ys₀ 0 a₀ b₀ ys₀
   before-first = record {
     sound = first-none _;
-    outputs = flat-none _ (outWidth ws) ys₀;
+    outputs = flat-none _ (outputWidth ws) ys₀;
     sizeA = refl;
     sizeB = refl;
     sizeY = refl;
@@ -71,21 +71,21 @@ module _ (B : Basis) (ps : List Float) (ws : List ℕ) (xs a₀ b₀ ys₀ : Lis
   }
 
   -- row r was run, with the number k, and its outputs were copied to their place: y is what the copy left from there on
-  pub one-row : (r k : ℕ) (a b ys a' b' y : List Float) → 2 ≤ length ws → r * outWidth ws ≤ length ys → length a' ≡ length a
+  pub one-row : (r k : ℕ) (a b ys a' b' y : List Float) → 2 ≤ length ws → r * outputWidth ws ≤ length ys → length a' ≡ length a
       → length b' ≡ length b
-      → length (putMid (r * outWidth ws) (length ys - r * outWidth ws) ys y) ≡ length ys
-      → Going B ps ws xs a₀ b₀ ys₀ r a b ys → Ran B ps ws (rowAt xs (inWidth ws) r) a b a' b' k → k ≡ 0
-      → y ≡ take (outWidth ws) (holder (length ws - 1) a' b') ++ drop (outWidth ws)
-      (take (length ys - r * outWidth ws) (drop (r * outWidth ws) ys))
-      → Going B ps ws xs a₀ b₀ ys₀ (r + 1) a' b' (putMid (r * outWidth ws) (length ys - r * outWidth ws) ys y)
+      → length (putMid (r * outputWidth ws) (length ys - r * outputWidth ws) ys y) ≡ length ys
+      → Going B ps ws xs a₀ b₀ ys₀ r a b ys → Ran B ps ws (rowAt xs (inputWidth ws) r) a b a' b' k → k ≡ 0
+      → y ≡ take (outputWidth ws) (holder (length ws - 1) a' b') ++ drop (outputWidth ws)
+      (take (length ys - r * outputWidth ws) (drop (r * outputWidth ws) ys))
+      → Going B ps ws xs a₀ b₀ ys₀ (r + 1) a' b' (putMid (r * outputWidth ws) (length ys - r * outputWidth ws) ys y)
   one-row r k a b ys a' b' y some h la lb ly g t e q = record {
     sound = first-more _ r (g .sound) (sym (t .refusal) ∙ e);
     outputs =
-        part-more (outputsAt B ps ws xs) (outWidth ws) (λ j. outputs-length B ps ws (rowAt xs (inWidth ws) j) some) r ys₀ ys y
+        part-more (outputsAt B ps ws xs) (outputWidth ws) (λ j. outputs-length B ps ws (rowAt xs (inputWidth ws) j) some) r ys₀ ys y
         (g .outputs) h
-        (λ d. q ∙ ap (λ (l : List Float). l ++ drop (outWidth ws) (take (length ys - r * outWidth ws) (drop (r * outWidth ws) ys)))
+        (λ d. q ∙ ap (λ (l : List Float). l ++ drop (outputWidth ws) (take (length ys - r * outputWidth ws) (drop (r * outputWidth ws) ys)))
         (t .outputs e)
-        ∙ ap (λ (l : List Float). outputsAt B ps ws xs r ++ drop (outWidth ws) l) (rest (r * outWidth ws) ys ∙ d));
+        ∙ ap (λ (l : List Float). outputsAt B ps ws xs r ++ drop (outputWidth ws) l) (rest (r * outputWidth ws) ys ∙ d));
     sizeA = la ∙ g .sizeA;
     sizeB = lb ∙ g .sizeB;
     sizeY = ly ∙ g .sizeY;
@@ -98,7 +98,7 @@ module _ (B : Basis) (ps : List Float) (ws : List ℕ) (xs a₀ b₀ ys₀ : Lis
   stops (suc n) row h = refl
 
   pub row-refused : (r k rows : ℕ) (a b ys a' b' : List Float) → r < rows → Going B ps ws xs a₀ b₀ ys₀ r a b ys
-      → Ran B ps ws (rowAt xs (inWidth ws) r) a b a' b' k → (k ≡ 0 → ⊥)
+      → Ran B ps ws (rowAt xs (inputWidth ws) r) a b a' b' k → (k ≡ 0 → ⊥)
       → RowsDone B ps ws xs rows a₀ b₀ ys₀ (refusedWith k r) a' b' ys
   unfolding rowsOutcome rowsWritten
   row-refused r k rows a b ys a' b' h g t n =
@@ -128,7 +128,7 @@ module _ (B : Basis) (ps : List Float) (ws : List ℕ) (xs a b ys : List Float) 
   unmoved r p q = record { answer = p; outputs = q; first = λ m h. refl; second = λ m h. refl }
 
   abbrev fit : Bool
-  fit = outputsFit (inWidth ws) (outWidth ws) (length xs) (length ys)
+  fit = outputsFit (inputWidth ws) (outputWidth ws) (length xs) (length ys)
 
   pub wrong-outputs : fit ≡ false → BatchDone B ps ws xs a b ys (refusedWith 10 0) a b ys
   unfolding predictOutcome predictWritten
@@ -139,7 +139,7 @@ module _ (B : Basis) (ps : List Float) (ws : List ℕ) (xs a b ys : List Float) 
   wild-model e f = unmoved (refusedWith 11 0) (sym (rw (e, f))) (sym (rw (e, f)))
 
   pub rows-done : (rows : ℕ) (r : Outcome) (a' b' ys' : List Float) → fit ≡ true → allFinite ps ≡ true
-      → rows ≡ rowsIn (length xs) (inWidth ws)
+      → rows ≡ rowsIn (length xs) (inputWidth ws)
       → RowsDone B ps ws xs rows a b ys r a' b' ys' → BatchDone B ps ws xs a b ys r a' b' ys'
   unfolding predictOutcome predictWritten
   rows-done rows r a' b' ys' e f n d = record {

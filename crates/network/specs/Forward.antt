@@ -14,7 +14,7 @@ use Rattle.layers.specs.Basis.{Basis}
 use Rattle.rows.specs.Pass.{rowRefusal, outputsOf}
 use Rattle.config.specs.declared.Checked.{Checked}
 use Rattle.config.specs.declared.Checked.the-variants.{Sound, Refused}
-use Rattle.network.specs.Admission.{equipped}
+use Rattle.admission.specs.Admission.{equipped}
 
 -- 11, then the row's 14, 15, 20
 unfoldable pub passRefusal : Basis → List Float → List ℕ → List Float → ℕ

@@ -1,4 +1,3 @@
-pub mod Admission
 pub mod Predict
 pub mod Loss
 pub mod Forward

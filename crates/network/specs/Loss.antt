@@ -11,6 +11,7 @@ use Rattle.floats.specs.Binary32.{_⊕_, _⊖_, _⊗_, _⊘_, zero32, whole32}
 use Rattle.floats.specs.Sums.{allFinite, at}
 use Rattle.spline.specs.declared.Grid.{Grid}
 use Rattle.layers.specs.Basis.{Basis}
+use Rattle.layers.specs.Widths.{inputWidth, outputWidth}
 use Rattle.rows.specs.Pass.{nodesFinite}
 use Rattle.rows.specs.Batch.{rowsIn, rowAt, batchFault}
 use Rattle.config.specs.declared.Checked.{Checked}
@@ -19,8 +20,8 @@ use Rattle.network.specs.declared.loss.Sum.{Sum}
 use Rattle.network.specs.declared.loss.Sum.the-variants.{Of, Stopped}
 use Rattle.network.specs.declared.loss.Loss.{Loss}
 use Rattle.network.specs.declared.loss.Loss.the-variants.{Mean, Refused as Not}
-use Rattle.network.specs.Admission.{equipped, swept}
-use Rattle.network.specs.Predict.{inWidth, outWidth, outputsAt}
+use Rattle.admission.specs.Admission.{equipped, swept}
+use Rattle.network.specs.Predict.{outputsAt}
 
 -- ---- the paper's number and values of each case of the answer
 abbrev pub lossNumber : Loss → ℕ
@@ -52,8 +53,8 @@ unfoldable pub lossTo : Basis → List Float → List ℕ → List Float → Lis
 lossTo B ps ws xs ts zero = Of zero32
 lossTo B ps ws xs ts (suc r) =
     onSum (lossTo B ps ws xs ts r)
-    (λ s. sumIf (nodesFinite B ps ws (rowAt xs (inWidth ws) r))
-    (errorsTo s (outputsAt B ps ws xs r) (rowAt ts (outWidth ws) r) (outWidth ws)) (Stopped 20))
+    (λ s. sumIf (nodesFinite B ps ws (rowAt xs (inputWidth ws) r))
+    (errorsTo s (outputsAt B ps ws xs r) (rowAt ts (outputWidth ws) r) (outputWidth ws)) (Stopped 20))
 
 -- the mean, or the refusal
 abbrev pub refuseLoss : ℕ → Loss
@@ -74,9 +75,9 @@ lossIf false a b = b
 
 unfoldable pub lossOf : Basis → List Float → List ℕ → List Float → List Float → Loss
 lossOf B ps ws xs ts =
-    let rows = rowsIn (length xs) (inWidth ws) in
+    let rows = rowsIn (length xs) (inputWidth ws) in
     lossIf (allFinite ps)
-    (soundBatch (batchFault (inWidth ws) (outWidth ws) xs ts) (meanOf (lossTo B ps ws xs ts rows) (rows * outWidth ws)))
+    (soundBatch (batchFault (inputWidth ws) (outputWidth ws) xs ts) (meanOf (lossTo B ps ws xs ts rows) (rows * outputWidth ws)))
     (refuseLoss 11)
 
 abbrev pub lossAnswer : Checked → Loss → Loss

@@ -10,26 +10,19 @@ use lib.Ieee.{Float}
 use Rattle.floats.specs.Sums.{allFinite, flatTo}
 use Rattle.spline.specs.declared.Grid.{Grid}
 use Rattle.layers.specs.Basis.{Basis}
-use Rattle.layers.specs.Widths.{widthAt}
+use Rattle.layers.specs.Widths.{inputWidth, outputWidth}
 use Rattle.rows.specs.Pass.{rowRefusal, outputsOf}
 use Rattle.rows.specs.Batch.{rowsIn, rowAt, firstFault, doneTo}
 use Rattle.config.specs.declared.Outcome.{Outcome}
 use Rattle.config.specs.declared.Outcome.the-variants.{Done, Refused as Not}
-use Rattle.network.specs.Admission.{equipped, swept, answered, written, refusedWith}
-
--- the input and the output width
-abbrev pub inWidth : List ℕ → ℕ
-inWidth ws = widthAt ws 0
-
-abbrev pub outWidth : List ℕ → ℕ
-outWidth ws = widthAt ws (length ws - 1)
+use Rattle.admission.specs.Admission.{equipped, swept, answered, written, refusedWith}
 
 -- row r's refusal, 0 for none, and its outputs
 abbrev pub refusalAt : Basis → List Float → List ℕ → List Float → ℕ → ℕ
-refusalAt B ps ws xs r = rowRefusal B ps ws (rowAt xs (inWidth ws) r)
+refusalAt B ps ws xs r = rowRefusal B ps ws (rowAt xs (inputWidth ws) r)
 
 abbrev pub outputsAt : Basis → List Float → List ℕ → List Float → ℕ → List Float
-outputsAt B ps ws xs r = outputsOf B ps ws (rowAt xs (inWidth ws) r)
+outputsAt B ps ws xs r = outputsOf B ps ws (rowAt xs (inputWidth ws) r)
 
 abbrev pub stopAt : ℕ → ℕ → Outcome
 stopAt zero row = Done
@@ -42,7 +35,7 @@ rowsOutcome B ps ws xs rows = stopAt (firstFault (refusalAt B ps ws xs) rows) (d
 unfoldable pub rowsWritten : Basis → List Float → List ℕ → List Float → ℕ → List Float → List Float
 rowsWritten B ps ws xs rows ys =
     let done = doneTo (refusalAt B ps ws xs) rows in
-    flatTo (outputsAt B ps ws xs) done ++ drop (done * outWidth ws) ys
+    flatTo (outputsAt B ps ws xs) done ++ drop (done * outputWidth ws) ys
 
 -- 10: "Check 10 wants rows × output width, a short row counted"; then 11; then the rows
 unfoldable pub outputsFit : ℕ → ℕ → ℕ → ℕ → Bool
@@ -50,14 +43,14 @@ outputsFit w v inputs outputs = eqb outputs (rowsIn inputs w * v)
 
 unfoldable pub predictOutcome : Basis → List Float → List ℕ → List Float → ℕ → Outcome
 predictOutcome B ps ws xs n =
-    cond (outputsFit (inWidth ws) (outWidth ws) (length xs) n)
-    (cond (allFinite ps) (rowsOutcome B ps ws xs (rowsIn (length xs) (inWidth ws))) (refusedWith 11 0))
+    cond (outputsFit (inputWidth ws) (outputWidth ws) (length xs) n)
+    (cond (allFinite ps) (rowsOutcome B ps ws xs (rowsIn (length xs) (inputWidth ws))) (refusedWith 11 0))
     (refusedWith 10 0)
 
 unfoldable pub predictWritten : Basis → List Float → List ℕ → List Float → List Float → List Float
 predictWritten B ps ws xs ys =
-    cond (outputsFit (inWidth ws) (outWidth ws) (length xs) (length ys))
-    (cond (allFinite ps) (rowsWritten B ps ws xs (rowsIn (length xs) (inWidth ws)) ys) ys)
+    cond (outputsFit (inputWidth ws) (outputWidth ws) (length xs) (length ys))
+    (cond (allFinite ps) (rowsWritten B ps ws xs (rowsIn (length xs) (inputWidth ws)) ys) ys)
     ys
 
 -- the whole call: the answer, and all lent memory

@@ -8,7 +8,7 @@ use Rattle.spline.specs.declared.Grid.{Grid}
 use Rattle.initial.specs.Initial.{modelInitial}
 use Rattle.config.specs.declared.Outcome.{Outcome}
 use Rattle.config.specs.declared.Outcome.the-variants.{Done}
-use Rattle.network.specs.Admission.{admitted, answered, written}
+use Rattle.admission.specs.Admission.{admitted, answered, written}
 
 pub record Initialised (ws : List ℕ) (g : Grid) (seed : ℕ) (ps : List Float) (r : Outcome) (ps′ : List Float) : Type 0 where
   pub answer : r ≡ answered (admitted ws g (length ps)) Done

@@ -10,24 +10,21 @@ use Rattle.spline.specs.declared.Grid.{Grid}
 use Rattle.layers.specs.Basis.{Basis}
 use Rattle.rows.specs.Batch.{rowsIn, SoundBatch}
 use Rattle.rows.specs.Pass.{outputsOf}
-use Rattle.rows.specs.Turns.{AtMost, holder, Fits}
+use Rattle.rows.specs.Turns.{Past, holder, Fits}
 use Rattle.floats.specs.Sums.{zeros}
+use Rattle.layers.specs.Widths.{inputWidth, outputWidth}
 use Rattle.config.specs.declared.Outcome.{Outcome}
 use Rattle.network.specs.declared.loss.Sum.{Sum}
 use Rattle.network.specs.declared.loss.Loss.{Loss}
 use Rattle.network.specs.Loss.{lossTo, lossOf}
 use Rattle.network.specs.Forward.{passRefusal}
-use Rattle.network.specs.Predict.{inWidth, outWidth, rowsOutcome, rowsWritten, predictOutcome, predictWritten}
-
--- a work slice is as it was past the largest width
-abbrev pub Past : List ℕ → List Float → List Float → Type 0
-Past ws s s′ = (m : ℕ) → AtMost ws m → drop m s′ ≡ drop m s
+use Rattle.network.specs.Predict.{rowsOutcome, rowsWritten, predictOutcome, predictWritten}
 
 -- the rows of a batch, with room for their outputs
 pub record Batched (g : Grid) (ps : List Float) (ws : List ℕ) (xs a b ys : List Float) (rows : ℕ) : Type 0 where
   pub fits : Fits g ps ws a b
-  pub count : rows ≡ rowsIn (length xs) (inWidth ws)
-  pub room : rows * outWidth ws ≤ length ys
+  pub count : rows ≡ rowsIn (length xs) (inputWidth ws)
+  pub room : rows * outputWidth ws ≤ length ys
 
 pub record RowsDone (B : Basis) (ps : List Float) (ws : List ℕ) (xs : List Float) (rows : ℕ) (a b ys : List Float) (r : Outcome)
     (a′ b′ ys′ : List Float) : Type 0 where
@@ -47,8 +44,8 @@ pub record BatchDone (B : Basis) (ps : List Float) (ws : List ℕ) (xs a b ys : 
 -- ---- loss: a sound batch, the rows' sum, and all past check 9
 pub record Measured (g : Grid) (ps : List Float) (ws : List ℕ) (xs ts a b : List Float) (rows : ℕ) : Type 0 where
   pub fits : Fits g ps ws a b
-  pub batch : SoundBatch (inWidth ws) (outWidth ws) xs ts
-  pub count : rows ≡ rowsIn (length xs) (inWidth ws)
+  pub batch : SoundBatch (inputWidth ws) (outputWidth ws) xs ts
+  pub count : rows ≡ rowsIn (length xs) (inputWidth ws)
 
 pub record RowsSummed (B : Basis) (ps : List Float) (ws : List ℕ) (xs ts : List Float) (rows : ℕ) (a b : List Float) (r : Sum)
     (a′ b′ : List Float) : Type 0 where
@@ -64,7 +61,7 @@ pub record LossDone (B : Basis) (ps : List Float) (ws : List ℕ) (xs ts a b : L
 -- ---- forward: 11 and the row, and the sweep behind it
 pub record Passed (B : Basis) (ps : List Float) (ws : List ℕ) (xs a b a′ b′ : List Float) (r : ℕ) : Type 0 where
   pub refusal : r ≡ passRefusal B ps ws xs
-  pub outputs : r ≡ 0 → take (outWidth ws) (holder (length ws - 1) a′ b′) ≡ outputsOf B ps ws xs
+  pub outputs : r ≡ 0 → take (outputWidth ws) (holder (length ws - 1) a′ b′) ≡ outputsOf B ps ws xs
   pub first : Past ws a a′
   pub second : Past ws b b′
 

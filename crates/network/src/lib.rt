@@ -1,6 +1,5 @@
 // Public crate: calls on a model. Each takes all arguments and answers, or refuses by document 01's number; one record
 // says the answer and the final contents of everything that was lent.
-mod admission;
 mod loss;
 mod predict;
 mod single;

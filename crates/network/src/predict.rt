@@ -7,7 +7,7 @@ ghost use Rattle.layers.specs.Basis.{basisOf, Basis};
 ghost use Rattle.rows.specs.Turns.{Fits, holder};
 ghost use Rattle.network.specs.Predict.{Predicted, outputsFit};
 ghost use Rattle.network.specs.Steps.{Batched, RowsDone, BatchDone};
-use crate::admission::equip;
+use admission::equip;
 use config::Checked;
 use config::Outcome;
 use config::Refusal;

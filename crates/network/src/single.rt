@@ -12,7 +12,7 @@ ghost use Rattle.layers.specs.Basis.{basisOf, Basis};
 ghost use Rattle.rows.specs.Turns.{Fits};
 ghost use Rattle.network.specs.Forward.{inFirst, forwardFirst, forwardSecond, forwardPart, forwardRefusal, Forwarded};
 ghost use Rattle.network.specs.Steps.{Passed, Swept};
-use crate::admission::equip;
+use admission::equip;
 use config::Checked;
 use spline::Grid;
 

@@ -1,6 +1,6 @@
 // The start of a model: its parameters drawn from a seed.
 ghost use Rattle.network.specs.Start.{Initialised};
-use crate::admission::admit;
+use admission::admit;
 use config::Checked;
 use config::Outcome;
 use spline::Grid;

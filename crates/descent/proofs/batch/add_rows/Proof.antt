@@ -4,9 +4,8 @@ use Prim.Native.Nat.{ℕ, _+_, _-_, _*_, _≤_, _<_}
 use native.Mathlib.Omega.{arith}
 use lib.ListN.{length, drop}
 use Rattle.layers.specs.Basis.{basisOf}
-use Rattle.layers.specs.Widths.{widthsTo}
+use Rattle.layers.specs.Widths.{outputWidth, widthsTo}
 use Rattle.descent.specs.Accumulate.{allPass, gathered}
-use Rattle.descent.specs.Calls.{outputWidth}
 use Rattle.descent.proofs.Gathered.{all-at, row-starts, gathered-none, gathered-more}
 use Rattle.descent.proofs.Slots.{row-length}
 use Rattle.descent.proofs.Spans.{refit, first-some, last-some}

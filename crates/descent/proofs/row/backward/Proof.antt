@@ -5,7 +5,7 @@ use Prim.Native.Nat.{ℕ, _+_, _-_, _*_, _≤_, _<_}
 use native.Mathlib.Omega.{arith}
 use lib.ListN.{length, take}
 use Rattle.floats.proofs.Loops.{rest, rest-length}
-use Rattle.descent.specs.Calls.{inputWidth}
+use Rattle.layers.specs.Widths.{inputWidth}
 use Rattle.descent.proofs.Spans.{last-width}
 use Rattle.descent.proofs.Ups.{Led, led-behind, begun, one-back, ended}
 use Rattle.descent.proofs.row.backward.Statement.{statement}

@@ -1,7 +1,7 @@
 -- `network::mse_loss` meets its contract: the checks, the work, the sweep. Assumes nothing.
 use mathlib.Core.Path.{_≡_, refl, sym, ap, _∙_}
 use native.Mathlib.Omega.{arith}
-use Rattle.network.proofs.Admitted.{equipped-sound, fitted}
+use Rattle.admission.proofs.Admitted.{equipped-sound, fitted}
 use Rattle.network.proofs.Losses.{loss-refused, loss-done}
 use borrow.Author.Needs.{needs}
 use Rattle.network.proofs.loss.mse_loss.Statement.{statement}

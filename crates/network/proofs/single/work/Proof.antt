@@ -2,7 +2,7 @@
 use mathlib.Core.Path.{_≡_, refl, sym, ap, _∙_}
 use native.Mathlib.Omega.{arith}
 use Prim.Native.Nat.{ℕ, _-_, _≤_, _<_}
-use Rattle.network.proofs.Admitted.{equipped-sound, fitted}
+use Rattle.admission.proofs.Admitted.{equipped-sound, fitted}
 use Rattle.network.proofs.Passing.{not-begun, passed-through, held-back}
 use borrow.Author.Needs.{needs}
 use Rattle.network.proofs.single.work.Statement.{statement}

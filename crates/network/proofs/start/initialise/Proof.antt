@@ -2,7 +2,7 @@
 use mathlib.Core.Path.{_≡_, sym, ap, _∙_}
 use native.Mathlib.Omega.{arith}
 use Rattle.config.proofs.Sized.{sized}
-use Rattle.network.proofs.Admitted.{admitted-sound}
+use Rattle.admission.proofs.Admitted.{admitted-sound}
 use borrow.Author.Needs.{needs}
 use Rattle.network.proofs.start.initialise.Statement.{statement}
 use Rattle.network.proofs.start.initialise.Tie as tie

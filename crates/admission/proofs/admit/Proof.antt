@@ -1,10 +1,10 @@
--- `network::admit` meets its contract. Assumes nothing.
+-- `admission::admit` meets its contract. Assumes nothing.
 use borrow.Author.Tests.{eq-eqb, ne-eqb}
 use Rattle.config.specs.Config.{unless}
-use Rattle.network.specs.Admission.{admitted}
+use Rattle.admission.specs.Admission.{admitted}
 use borrow.Author.Needs.{needs}
-use Rattle.network.proofs.admission.admit.Statement.{statement}
-use Rattle.network.proofs.admission.admit.Tie as tie
+use Rattle.admission.proofs.admit.Statement.{statement}
+use Rattle.admission.proofs.admit.Tie as tie
 
 check-requires : tie.Need-check-requires
 check-requires c κs = search needs

@@ -1,1 +1,2 @@
 pub mod Linkage
+pub mod Trained

@@ -1,10 +1,12 @@
 // Public crate: the C linkage, and nothing else. A slice is a pointer and a length in elements; an answer goes out as
 // document 01's number, and what it carries in a lent number.
 ghost use Rattle.estimator.specs.Linkage.{gridOf, CheckLinked, InitialiseLinked, PredictLinked, LossLinked};
+ghost use Rattle.estimator.specs.Trained.{StepLinked, TrainLinked};
 use config::Checked;
 use config::Outcome;
 use network::Loss;
 use spline::Grid;
+use training::Training;
 
 #[no_mangle]
 pub extern "C" fn kan_check(
@@ -133,6 +135,91 @@ pub extern "C" fn kan_loss(
         Loss::Refused(refusal) => {
             *carried = refusal.carried;
             refusal.number
+        }
+    }
+}
+
+#[no_mangle]
+pub extern "C" fn kan_train_step(
+    widths: &[usize],
+    intervals: usize,
+    lo: f32,
+    hi: f32,
+    model: &mut [f32],
+    inputs: &[f32],
+    targets: &[f32],
+    rate: f32,
+    gradients: &mut [f32],
+    work: &mut [f32],
+    carried: &mut usize,
+) -> u32
+    ensures { λ r. ⌜ StepLinked (now (widths .entry)) (gridOf intervals lo hi) (now (model .entry)) (now (inputs .entry))
+        (now (targets .entry)) rate (now (gradients .entry)) (now (work .entry)) r
+        (now (model .exit)) (now (gradients .exit)) (now (work .exit)) (now (carried .exit)) ⌝ }
+{
+    let outcome = training::train_step(
+        widths,
+        Grid { intervals, lo, hi },
+        model,
+        inputs,
+        targets,
+        rate,
+        gradients,
+        work,
+    );
+    match outcome {
+        Outcome::Done => {
+            *carried = 0;
+            0
+        }
+        Outcome::Refused(refusal) => {
+            *carried = refusal.carried;
+            refusal.number
+        }
+    }
+}
+
+#[no_mangle]
+pub extern "C" fn kan_train(
+    widths: &[usize],
+    intervals: usize,
+    lo: f32,
+    hi: f32,
+    model: &mut [f32],
+    inputs: &[f32],
+    targets: &[f32],
+    steps: usize,
+    rate: f32,
+    gradients: &mut [f32],
+    work: &mut [f32],
+    done: &mut usize,
+    carried: &mut usize,
+) -> u32
+    ensures { λ r. ⌜ TrainLinked (now (widths .entry)) (gridOf intervals lo hi) (now (model .entry)) (now (inputs .entry))
+        (now (targets .entry)) rate (now (gradients .entry)) (now (work .entry)) steps r
+        (now (model .exit)) (now (gradients .exit)) (now (work .exit)) (now (done .exit)) (now (carried .exit)) ⌝ }
+{
+    let answer = training::train(
+        widths,
+        Grid { intervals, lo, hi },
+        model,
+        inputs,
+        targets,
+        steps,
+        rate,
+        gradients,
+        work,
+    );
+    match answer {
+        Training::All(all) => {
+            *done = all;
+            *carried = 0;
+            0
+        }
+        Training::Stopped(stop) => {
+            *done = stop.done;
+            *carried = stop.carried;
+            stop.number
         }
     }
 }

@@ -1,0 +1,4 @@
+pub mod Stepping
+pub mod Steps
+pub mod Training
+pub mod Determined

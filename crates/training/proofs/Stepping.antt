@@ -1,0 +1,87 @@
+-- A step from its parts: the gradients gathered in front of the lent slice, then the move. Assumes nothing.
+use mathlib.Core.Path.{_≡_, refl, sym, ap, _∙_}
+use mathlib.Core.Bool.{Bool, true, false, cond}
+use mathlib.Core.List.{List, _++_}
+use Prim.Native.Nat.{ℕ, _-_, _*_, _≤_}
+use native.Mathlib.Omega.{arith}
+use lib.Dec.{eqb}
+use lib.ListN.{length, take, drop}
+use lib.Seq.{length-take-le, take-at, drop-at}
+use lib.Ieee.{Float}
+use borrow.Rule.Slice.PartMut.{putMid}
+use Rattle.floats.specs.Sums.{zeros}
+use Rattle.floats.proofs.Loops.{tab-length}
+use Rattle.layers.specs.Basis.{Basis}
+use Rattle.layers.specs.Widths.{inputWidth, outputWidth}
+use Rattle.rows.specs.Batch.{SoundBatch}
+use Rattle.descent.specs.Calls.{rowsOf, Accumulated, Applied}
+use Rattle.descent.specs.Accumulate.{allPass, gathered, movesFinite, movedOf}
+use Rattle.training.specs.Step.{scaleOf, gradientOf, stepFault, stepped}
+use Rattle.training.specs.Stages.{Rests, GatherDone, StepDone}
+
+-- the front of a slice, as a part from 0 to n
+pub lent-front : (n : ℕ) (gs : List Float) → n ≤ length gs → length (take (n - 0) gs) ≡ n
+lent-front n gs h = let d : n - 0 ≡ n = omega arith in rw d (length-take-le n gs h)
+
+module _ (B : Basis) (ws : List ℕ) (ps xs ts : List Float) where
+  -- a sound batch has rows × outputs targets
+  targets-count : SoundBatch (inputWidth ws) (outputWidth ws) xs ts → length ts ≡ rowsOf ws xs * outputWidth ws
+  targets-count b = b .wholeTargets ∙ ap (λ (n : ℕ). n * outputWidth ws) (sym (b .sameRows))
+
+  -- the slice cleared in front, the gradients put there; the code comes by P as P - 0, from a part's two ends
+  pub gather-done : (gs W gs₁ ys W' : List Float) (r : Bool) → SoundBatch (inputWidth ws) (outputWidth ws) xs ts
+      → gs₁ ≡ zeros (length ps) ++ drop (length ps) gs → length ys ≡ length (take (length ps - 0) gs₁)
+      → Accumulated B ps ws xs ts (scaleOf (length ts)) (take (length ps - 0) gs₁) W ys W' r
+      → GatherDone B ws ps xs ts gs W r (ys ++ drop (length ps - 0) gs₁) W'
+  unfolding gradientOf
+  gather-done gs W gs₁ ys W' r b c l a =
+      let n = length ps in
+      let m = length ps - 0 in
+      let d : m ≡ n = omega arith in
+      let front : take m gs₁ ≡ zeros n = rw d (ap (take n) c ∙ take-at (zeros n) (drop n gs) n (tab-length _ n)) in
+      let behind : drop m gs₁ ≡ drop n gs = rw d (ap (drop n) c ∙ drop-at (zeros n) (drop n gs) n (tab-length _ n)) in
+      let k : length ys ≡ n = l ∙ ap length front ∙ tab-length _ n in
+      record {
+        passed = a .passed;
+        gradients = λ e.
+            take-at ys (drop m gs₁) n k
+            ∙ a .gradients
+            ∙ ap (λ (t : Bool). cond t (gathered B ps ws xs ts (outputWidth ws) (scaleOf (length ts)) (take m gs₁) (rowsOf ws xs)) (take m gs₁)) e
+            ∙ ap (λ (l : List Float). gathered B ps ws xs ts (outputWidth ws) (scaleOf (length ts)) l (rowsOf ws xs)) front
+            ∙ ap (λ (m : ℕ). gathered B ps ws xs ts (outputWidth ws) (scaleOf m) (zeros n) (rowsOf ws xs)) (targets-count b);
+        rests = record { gradients = drop-at ys (drop m gs₁) n k ∙ behind; work = a .rest };
+      }
+
+  -- 20: nothing moves
+  pub step-stopped : (rate : Float) (gs W gs' W' : List Float) (r : Bool) → GatherDone B ws ps xs ts gs W r gs' W' → r ≡ false
+      → StepDone B ws ps xs ts rate gs W 20 ps gs' W'
+  unfolding stepFault
+  step-stopped rate gs W gs' W' r g e = record { refusal = rw (← g .passed, e); model = refl; rests = g .rests }
+
+  -- the move, or 23
+  step-moved : (rate : Float) (gs W gs' W' ps' : List Float) (r b : Bool) → GatherDone B ws ps xs ts gs W r gs' W'
+      → r ≡ true → Applied ps (take (length ps - 0) gs') rate ps' b
+      → StepDone B ws ps xs ts rate gs W (cond b 0 23) ps' gs' W'
+  unfolding stepFault stepped
+  step-moved rate gs W gs' W' ps' r b g e a = record { refusal = fault; model = moved b (a .model); rests = g .rests }
+    where
+      gradient : take (length ps - 0) gs' ≡ gradientOf B ps ws xs ts
+      gradient = let d : length ps - 0 ≡ length ps = omega arith in rw d (g .gradients e)
+
+      fault : cond b 0 23 ≡ stepFault B ps ws xs ts rate
+      fault = rw (← g .passed, e, ← gradient, a .finite)
+
+      moved : (t : Bool) → ps' ≡ cond t (movedOf ps (take (length ps - 0) gs') rate) ps
+          → ps' ≡ cond (eqb (cond t 0 23) 0) (stepped B ps ws xs ts rate) ps
+      moved true e = e ∙ ap (λ (l : List Float). movedOf ps l rate) gradient
+      moved false e = e
+
+  pub step-done : (rate : Float) (gs W gs' W' ps' : List Float) (r b : Bool) → GatherDone B ws ps xs ts gs W r gs' W'
+      → r ≡ true → Applied ps (take (length ps - 0) gs') rate ps' b → b ≡ true
+      → StepDone B ws ps xs ts rate gs W 0 ps' gs' W'
+  step-done rate gs W gs' W' ps' r b g e a t = rw t at (step-moved rate gs W gs' W' ps' r b g e a)
+
+  pub step-undone : (rate : Float) (gs W gs' W' ps' : List Float) (r b : Bool) → GatherDone B ws ps xs ts gs W r gs' W'
+      → r ≡ true → Applied ps (take (length ps - 0) gs') rate ps' b → b ≡ false
+      → StepDone B ws ps xs ts rate gs W 23 ps' gs' W'
+  step-undone rate gs W gs' W' ps' r b g e a t = rw t at (step-moved rate gs W gs' W' ps' r b g e a)

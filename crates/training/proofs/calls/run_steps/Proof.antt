@@ -1,0 +1,97 @@
+-- `training::run_steps` meets its contract: before step k, the model is that after k steps. Assumes nothing.
+use mathlib.Core.Path.{_≡_, sym, _∙_}
+use Prim.Native.Nat.{_-_, _≤_}
+use native.Mathlib.Omega.{arith}
+use Rattle.layers.specs.Basis.{basisOf}
+use Rattle.training.proofs.Steps.{ready-moved, Going, before-first, one-more, steps-stopped, steps-all}
+use Rattle.training.proofs.calls.run_steps.Statement.{statement}
+use Rattle.training.proofs.calls.run_steps.Tie as tie
+
+abbrev Inv-loop : tie.InvT-loop
+Inv-loop grid widths model₀ inputs targets steps rate gradients₀ work₀ done₀ model gradients work done =
+    (done ≤ steps) × Going (basisOf grid) widths model₀ inputs targets rate gradients₀ work₀ done model gradients work
+
+abbrev μ-loop : tie.MeasureT-loop
+μ-loop grid widths model₀ inputs targets steps rate gradients₀ work₀ done₀ model gradients work done =
+    steps - done
+
+loop-holds : tie.Need-loop-holds Inv-loop μ-loop
+loop-holds c = (omega arith, before-first _ _ _ _ _ _ _ _)
+
+step-requires : tie.Need-step-requires Inv-loop μ-loop
+step-requires c κs =
+    let at-loop = c .before .before .before .before in
+    let start = at-loop .before .before .before .before .before .before .before in
+    let h = at-loop .loop .inv .1 in
+    ready-moved _ _ _ _ _ _ _ _ _ _ (start .pre) (h .sizeP) (h .sizeG) (h .sizeW)
+
+same-length : tie.Need-same-length Inv-loop μ-loop
+same-length c =
+    let at-step = c .before .before .before .before .before .before .before in
+    let at-loop = at-step .before .before .before .before .before in
+    at-step .step .kept .1 .1 .0 ∙ at-loop .loop .inv .1 .sizeP
+
+same-length-2 : tie.Need-same-length-2 Inv-loop μ-loop
+same-length-2 c =
+    let at-step = c .before .before .before .before .before .before .before in
+    let at-loop = at-step .before .before .before .before .before in
+    at-step .step .kept .1 .1 .1 .1 .1 .1 .0 ∙ at-loop .loop .inv .1 .sizeG
+
+same-length-3 : tie.Need-same-length-3 Inv-loop μ-loop
+same-length-3 c =
+    let at-step = c .before .before .before .before .before .before .before in
+    let at-loop = at-step .before .before .before .before .before in
+    at-step .step .kept .1 .1 .1 .1 .1 .1 .1 .0 ∙ at-loop .loop .inv .1 .sizeW
+
+returns : tie.Need-returns Inv-loop μ-loop
+returns c =
+    let at-step = c .before .before .before .before .before .before .before in
+    let at-loop-test = at-step .before .before .before .before in
+    let at-loop = at-loop-test .before in
+    steps-stopped _ _ _ _ _ _ _ _ _ _ _ _ _ _ _ _ _ (at-loop-test .loop-test .taken) (at-loop .loop .inv .1) (at-step .step .ensures) (c .if1 .taken)
+
+add-done : tie.Need-add-done Inv-loop μ-loop
+add-done c = omega arith
+
+loop-less : tie.Need-loop-less Inv-loop μ-loop
+loop-less c = omega arith
+
+loop-again : tie.Need-loop-again Inv-loop μ-loop
+loop-again c =
+    let at-step = c .before .before .before .before .before .before .before in
+    let at-loop = at-step .before .before .before .before .before in (
+      omega arith,
+      one-more _ _ _ _ _ _ _ _ _ _ _ _ _ _ _ _ (at-step .step .kept .1 .1 .0) (at-step .step .kept .1 .1 .1 .1 .1 .1 .0) (at-step .step .kept .1 .1 .1 .1 .1 .1 .1 .0) (at-loop .loop .inv .1) (at-step .step .ensures) (c .if1 .left),
+    )
+
+same-length-4 : tie.Need-same-length-4 Inv-loop μ-loop
+same-length-4 c = c .before .loop .inv .1 .sizeP
+
+same-length-5 : tie.Need-same-length-5 Inv-loop μ-loop
+same-length-5 c = c .before .loop .inv .1 .sizeG
+
+same-length-6 : tie.Need-same-length-6 Inv-loop μ-loop
+same-length-6 c = c .before .loop .inv .1 .sizeW
+
+returns-2 : tie.Need-returns-2 Inv-loop μ-loop
+returns-2 c = steps-all _ _ _ _ _ _ _ _ _ _ _ _ _ (omega arith) (c .before .loop .inv .1)
+
+pub run-steps-spec : {M : Type 1} → statement M
+run-steps-spec =
+    tie.close
+    (tie.spec
+    Inv-loop
+    μ-loop
+    loop-holds
+    step-requires
+    same-length
+    same-length-2
+    same-length-3
+    returns
+    add-done
+    loop-less
+    loop-again
+    same-length-4
+    same-length-5
+    same-length-6
+    returns-2)

@@ -1,0 +1,9 @@
+// Public crate: training. Each call takes all arguments and answers, or refuses by document 01's number; one record says the
+// answer and the final contents of everything that was lent.
+mod calls;
+mod step;
+
+pub use calls::Stop;
+pub use calls::Training;
+pub use calls::train;
+pub use calls::train_step;

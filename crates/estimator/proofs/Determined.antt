@@ -11,6 +11,10 @@ use Rattle.estimator.proofs.kan_predict as predict
 use Rattle.estimator.proofs.kan_predict.Reads as predict-reads
 use Rattle.estimator.proofs.kan_loss as loss
 use Rattle.estimator.proofs.kan_loss.Reads as loss-reads
+use Rattle.estimator.proofs.kan_train_step as step
+use Rattle.estimator.proofs.kan_train_step.Reads as step-reads
+use Rattle.estimator.proofs.kan_train as train
+use Rattle.estimator.proofs.kan_train.Reads as train-reads
 
 pub check-determined : Determined check.ended check-reads.Post
 check-determined κs a r r′ w w′ p q =
@@ -39,3 +43,22 @@ loss-determined κs a r r′ w w′ p q =
     let loss = p .loss ∙ sym (q .loss) in
     let carried = p .carried ∙ sym (q .carried) in
     (p .number ∙ sym (q .number), (λ i. (tt, (tt, (tt, (tt, (tt, (tt, (tt, (first i, (second i, (loss i, (carried i, tt)))))))))))))
+
+pub step-determined : Determined step.ended step-reads.Post
+step-determined κs a r r′ w w′ p q =
+    let model = p .model ∙ sym (q .model) in
+    let gradients = p .gradients ∙ sym (q .gradients) in
+    let work = p .work ∙ sym (q .work) in
+    let carried = p .carried ∙ sym (q .carried) in
+    (p .number ∙ sym (q .number), (λ i. (tt, (tt, (tt, (tt, (model i, (tt, (tt, (tt, (gradients i, (work i, (carried i, tt)))))))))))))
+
+pub train-determined : Determined train.ended train-reads.Post
+train-determined κs a r r′ w w′ p q =
+    let model = p .model ∙ sym (q .model) in
+    let gradients = p .gradients ∙ sym (q .gradients) in
+    let work = p .work ∙ sym (q .work) in
+    let done = p .done ∙ sym (q .done) in
+    let carried = p .carried ∙ sym (q .carried) in (
+      p .number ∙ sym (q .number),
+      (λ i. (tt, (tt, (tt, (tt, (model i, (tt, (tt, (tt, (tt, (gradients i, (work i, (done i, (carried i, tt)))))))))))))),
+    )

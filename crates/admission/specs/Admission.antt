@@ -59,7 +59,7 @@ abbrev pub answered : Checked → Outcome → Outcome
 answered (Refused r) o = Not r
 answered (Sound s) o = o
 
-abbrev pub written : Checked → List Float → List Float → List Float
+abbrev pub written : {A : Type 0} → Checked → List A → List A → List A
 written (Refused r) old new = old
 written (Sound s) old new = new
 

@@ -11,19 +11,20 @@ use lib.Ieee.{Float}
 use borrow.Rule.Slice.PartMut.{putMid}
 use Rattle.floats.specs.Sums.{flatTo, allFinite}
 use Rattle.floats.proofs.Loops.{flat-none, part-more, rest}
-use Rattle.spline.specs.declared.Grid.{Grid}
 use Rattle.layers.specs.Basis.{Basis}
 use Rattle.layers.specs.Layer.{layerOf}
 use Rattle.layers.specs.Widths.{inputWidth, outputWidth, widthAt, paramsTo}
 use Rattle.rows.specs.Pass.{nodesOf, outputsOf, rowRefusal}
 use Rattle.rows.specs.Batch.{rowsIn, rowAt, firstFault, doneTo}
-use Rattle.rows.specs.Turns.{Past, holder, Fits, Ran}
-use Rattle.rows.proofs.Batches.{first-none, first-more, first-stop, done-all, done-stop}
+use Rattle.rows.specs.Turns.{Past, holder, Ran}
+use Rattle.rows.proofs.Batches.{first-none, first-more, done-all, done-stop}
 use Rattle.rows.proofs.Passes.{layer-length}
 use Rattle.config.specs.declared.Outcome.{Outcome}
 use Rattle.config.specs.declared.Outcome.the-variants.{Done}
 use Rattle.admission.specs.Admission.{refusedWith}
-use Rattle.network.specs.Predict.{refusalAt, outputsAt, stopAt, rowsOutcome, rowsWritten}
+use Rattle.admission.specs.Rows.{refusalAt}
+use Rattle.admission.proofs.Rows.{rows-stopped, rows-passed}
+use Rattle.network.specs.Predict.{outputsAt, rowsWritten}
 use Rattle.network.specs.Predict.{outputsFit, predictOutcome, predictWritten}
 use Rattle.network.specs.Steps.{RowsDone, BatchDone}
 
@@ -35,19 +36,6 @@ outputs-length B ps ws xs h = go (length ws - 1) (omega arith)
     go : (l : ℕ) → 1 ≤ l → length (nodesOf B ps ws xs l) ≡ widthAt ws l
     go zero h = absurd (omega arith)
     go (suc l) h = layer-length B (drop (paramsTo (B .stride) ws l) ps) (nodesOf B ps ws xs l) (widthAt ws (suc l))
-
--- slices of the same lengths fit as well
-pub fits-moved : (g : Grid) (ps : List Float) (ws : List ℕ) (a₀ b₀ a b : List Float) → Fits g ps ws a₀ b₀ → length a ≡ length a₀
-    → length b ≡ length b₀
-    → Fits g ps ws a b
-fits-moved g ps ws a₀ b₀ a b f p q = record {
-  grid = f .grid;
-  some = f .some;
-  positive = f .positive;
-  params = f .params;
-  first = λ j h. omega (arith, f .first j h);
-  second = λ j h. omega (arith, f .second j h);
-}
 
 pub record Going (B : Basis) (ps : List Float) (ws : List ℕ) (xs a₀ b₀ ys₀ : List Float) (r : ℕ) (a b ys : List Float) : Type 0 where
   pub sound : firstFault (refusalAt B ps ws xs) r ≡ 0
@@ -93,21 +81,15 @@ module _ (B : Basis) (ps : List Float) (ws : List ℕ) (xs a₀ b₀ ys₀ : Lis
     second = λ m p. t .second m p ∙ g .second m p;
   }
 
-  stops : (n row : ℕ) → (n ≡ 0 → ⊥) → refusedWith n row ≡ stopAt n row
-  stops zero row h = absurd (h refl)
-  stops (suc n) row h = refl
-
   pub row-refused : (r k rows : ℕ) (a b ys a' b' : List Float) → r < rows → Going B ps ws xs a₀ b₀ ys₀ r a b ys
       → Ran B ps ws (rowAt xs (inputWidth ws) r) a b a' b' k → (k ≡ 0 → ⊥)
       → RowsDone B ps ws xs rows a₀ b₀ ys₀ (refusedWith k r) a' b' ys
-  unfolding rowsOutcome rowsWritten
+  unfolding rowsWritten
   row-refused r k rows a b ys a' b' h g t n =
       let f = refusalAt B ps ws xs in
-      let m : (f r ≡ 0 → ⊥) = λ (e : f r ≡ 0). n (t .refusal ∙ e) in
-      let first : firstFault f rows ≡ k = first-stop f r rows h (g .sound) m ∙ sym (t .refusal) in
-      let done : doneTo f rows ≡ r = done-stop f r rows h (g .sound) m in
+      let done : doneTo f rows ≡ r = done-stop f r rows h (g .sound) (λ (e : f r ≡ 0). n (t .refusal ∙ e)) in
       record {
-        answer = stops k r n ∙ sym (rw (first, done));
+        answer = rows-stopped B ps ws xs r k rows h (g .sound) (t .refusal) n;
         outputs = g .outputs ∙ sym (rw done);
         first = λ i p. t .first i p ∙ g .first i p;
         second = λ i p. t .second i p ∙ g .second i p;
@@ -115,11 +97,11 @@ module _ (B : Basis) (ps : List Float) (ws : List ℕ) (xs a₀ b₀ ys₀ : Lis
 
   pub all-rows : (r rows : ℕ) (a b ys : List Float) → r ≡ rows → Going B ps ws xs a₀ b₀ ys₀ r a b ys
       → RowsDone B ps ws xs rows a₀ b₀ ys₀ Done a b ys
-  unfolding rowsOutcome rowsWritten
+  unfolding rowsWritten
   all-rows r rows a b ys e g =
       let first : firstFault (refusalAt B ps ws xs) rows ≡ 0 = rw (← e) (g .sound) in
       let done : doneTo (refusalAt B ps ws xs) rows ≡ r = done-all (refusalAt B ps ws xs) rows first ∙ sym e in
-      record { answer = sym (rw first); outputs = g .outputs ∙ sym (rw done); first = g .first; second = g .second }
+      record { answer = rows-passed B ps ws xs rows first; outputs = g .outputs ∙ sym (rw done); first = g .first; second = g .second }
 
 -- ---- 10 and 11 before the rows
 module _ (B : Basis) (ps : List Float) (ws : List ℕ) (xs a b ys : List Float) where

@@ -1,6 +1,6 @@
 -- `predict_batch`: "takes each row's 14, 15, 20 before looking at the next; the refusal carries the row, counted from 0 ..
 -- Prediction rows before the refused row stay written" (document 01). Definitions only.
-use Prim.Native.Nat.{ℕ, zero, suc, _-_, _*_}
+use Prim.Native.Nat.{ℕ, _*_}
 use mathlib.Core.Path.{_≡_}
 use mathlib.Core.Bool.{Bool, cond}
 use mathlib.Core.List.{List, _++_}
@@ -11,27 +11,17 @@ use Rattle.floats.specs.Sums.{allFinite, flatTo}
 use Rattle.spline.specs.declared.Grid.{Grid}
 use Rattle.layers.specs.Basis.{Basis}
 use Rattle.layers.specs.Widths.{inputWidth, outputWidth}
-use Rattle.rows.specs.Pass.{rowRefusal, outputsOf}
-use Rattle.rows.specs.Batch.{rowsIn, rowAt, firstFault, doneTo}
+use Rattle.rows.specs.Pass.{outputsOf}
+use Rattle.rows.specs.Batch.{rowsIn, rowAt, doneTo}
 use Rattle.config.specs.declared.Outcome.{Outcome}
-use Rattle.config.specs.declared.Outcome.the-variants.{Done, Refused as Not}
 use Rattle.admission.specs.Admission.{equipped, swept, answered, written, refusedWith}
+use Rattle.admission.specs.Rows.{refusalAt, rowsOutcome}
 
--- row r's refusal, 0 for none, and its outputs
-abbrev pub refusalAt : Basis → List Float → List ℕ → List Float → ℕ → ℕ
-refusalAt B ps ws xs r = rowRefusal B ps ws (rowAt xs (inputWidth ws) r)
-
+-- row r's outputs
 abbrev pub outputsAt : Basis → List Float → List ℕ → List Float → ℕ → List Float
 outputsAt B ps ws xs r = outputsOf B ps ws (rowAt xs (inputWidth ws) r)
 
-abbrev pub stopAt : ℕ → ℕ → Outcome
-stopAt zero row = Done
-stopAt (suc n) row = refusedWith (suc n) row
-
--- the first `rows` rows: the answer, and the output slice
-unfoldable pub rowsOutcome : Basis → List Float → List ℕ → List Float → ℕ → Outcome
-rowsOutcome B ps ws xs rows = stopAt (firstFault (refusalAt B ps ws xs) rows) (doneTo (refusalAt B ps ws xs) rows)
-
+-- the output slice after the first `rows` rows
 unfoldable pub rowsWritten : Basis → List Float → List ℕ → List Float → ℕ → List Float → List Float
 rowsWritten B ps ws xs rows ys =
     let done = doneTo (refusalAt B ps ws xs) rows in

@@ -14,11 +14,12 @@ use Rattle.rows.specs.Turns.{Past, holder, Fits}
 use Rattle.floats.specs.Sums.{zeros}
 use Rattle.layers.specs.Widths.{inputWidth, outputWidth}
 use Rattle.config.specs.declared.Outcome.{Outcome}
+use Rattle.admission.specs.Rows.{rowsOutcome}
 use Rattle.network.specs.declared.loss.Sum.{Sum}
 use Rattle.network.specs.declared.loss.Loss.{Loss}
 use Rattle.network.specs.Loss.{lossTo, lossOf}
 use Rattle.network.specs.Forward.{passRefusal}
-use Rattle.network.specs.Predict.{rowsOutcome, rowsWritten, predictOutcome, predictWritten}
+use Rattle.network.specs.Predict.{rowsWritten, predictOutcome, predictWritten}
 
 -- the rows of a batch, with room for their outputs
 pub record Batched (g : Grid) (ps : List Float) (ws : List ℕ) (xs a b ys : List Float) (rows : ℕ) : Type 0 where

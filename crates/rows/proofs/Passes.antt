@@ -13,14 +13,15 @@ use lib.Seq.{take-at, drop-at, drop-drop}
 use lib.Ieee.{Float}
 use borrow.Author.Tests.{eq-eqb, ne-eqb, eqb-true, eqb-false}
 use Rattle.floats.specs.Sums.{allTo, allFinite}
-use Rattle.floats.proofs.Loops.{front, rest, tab-length, all-none, all-more, all-stop}
-use Rattle.layers.specs.Basis.{Basis}
+use Rattle.floats.proofs.Loops.{front, rest, rest-length, tab-length, all-none, all-more, all-stop}
+use Rattle.spline.specs.declared.Grid.{Grid}
+use Rattle.layers.specs.Basis.{Basis, basisOf}
 use Rattle.layers.specs.Widths.{widthAt, layerSize, paramsTo}
 use Rattle.layers.specs.Layer.{layerOf}
-use Rattle.layers.proofs.Widths.{params-none, params-more}
+use Rattle.layers.proofs.Widths.{params-none, params-more, params-room}
 use Rattle.rows.specs.Pass.{nodesOf, finiteAfter, nodesFinite, rowFault, rowRefusal}
 use Rattle.rows.proofs.Batches.{wide-row}
-use Rattle.rows.specs.Turns.{holder, AtMost, Turned, Layered, Ran}
+use Rattle.rows.specs.Turns.{holder, AtMost, Turns, Turned, Fits, Layered, Ran}
 
 -- ---- one layer at the front of a slice
 pub layer-length : (B : Basis) (ps xs : List Float) (n : ℕ) → length (layerOf B ps xs n) ≡ n
@@ -161,6 +162,56 @@ module _ (B : Basis) (ps : List Float) (ws : List ℕ) (xs a₀ b₀ : List Floa
     second = k .kept .second;
   }
 
+-- ---- what a turn asks, after l layers of a row whose model and slices fit
+-- slices of the same lengths fit as well
+pub fits-moved : (g : Grid) (ps : List Float) (ws : List ℕ) (a₀ b₀ a b : List Float) → Fits g ps ws a₀ b₀ → length a ≡ length a₀
+    → length b ≡ length b₀
+    → Fits g ps ws a b
+fits-moved g ps ws a₀ b₀ a b f p q = record {
+  grid = f .grid;
+  some = f .some;
+  positive = f .positive;
+  params = f .params;
+  first = λ j h. omega (arith, f .first j h);
+  second = λ j h. omega (arith, f .second j h);
+}
+
+-- the turn's layer lies within the model
+pub inside : {g : Grid} {ps : List Float} {ws : List ℕ} {xs a₀ b₀ a b : List Float} (l at : ℕ) → l < length ws - 1 → Fits g ps ws a₀ b₀
+    → Walked (basisOf g) ps ws xs a₀ b₀ l at a b → at + layerSize (g .intervals + 5) ws l ≤ length ps
+inside {g} {ps} {ws} l at h f k = omega (arith, params-room (g .intervals + 5) ws l (length ws - 1) h, k .part, f .params)
+
+pub may-turn : {g : Grid} {ps : List Float} {ws : List ℕ} {xs a₀ b₀ a b : List Float} (l at : ℕ) → l < length ws - 1
+    → Fits g ps ws a₀ b₀ → Walked (basisOf g) ps ws xs a₀ b₀ l at a b
+    → Turns g (take (length ps - at) (drop at ps)) (widthAt ws l) (widthAt ws (l + 1)) a b
+may-turn {g} {ps} {ws} {xs} {a₀} {b₀} {a} {b} l at h f k =
+    let m : Fits g ps ws a b = fits-moved g ps ws a₀ b₀ a b f (k .kept .sizeA) (k .kept .sizeB) in
+    record {
+      grid = f .grid;
+      some = f .positive (l + 1) (omega arith);
+      fromFirst = m .first l (omega arith);
+      fromSecond = m .second l (omega arith);
+      toFirst = m .first (l + 1) (omega arith);
+      toSecond = m .second (l + 1) (omega arith);
+      params = rw rest-length (omega (arith, inside l at h f k));
+    }
+
+-- and what it leaves
+pub keeps : {g : Grid} {ps : List Float} {ws : List ℕ} {xs a₀ b₀ a b a' b' : List Float} {r : Bool} (l at : ℕ) → l < length ws - 1
+    → Fits g ps ws a₀ b₀ → Walked (basisOf g) ps ws xs a₀ b₀ l at a b
+    → Turned (basisOf g) (take (length ps - at) (drop at ps)) l (widthAt ws l) (widthAt ws (l + 1)) a b a' b' r → Kept ws a₀ b₀ a' b'
+keeps {g} {ps} {ws} {xs} {a₀} {b₀} {a} {b} {a'} {b'} {r} l at h f k t =
+    let m = may-turn l at h f k in
+    kept-turn (basisOf g) (take (length ps - at) (drop at ps)) ws a₀ b₀ l (widthAt ws l) (widthAt ws (l + 1)) a b a' b' r (m .toFirst)
+    (m .toSecond) (λ n q. q (l + 1) (omega arith)) t (k .kept)
+
+-- as many values as the layer has nodes
+pub nodes-length : (B : Basis) (ps : List Float) (ws : List ℕ) (xs : List Float) → length xs ≡ widthAt ws 0 → (l : ℕ)
+    → length (nodesOf B ps ws xs l) ≡ widthAt ws l
+unfolding nodesOf
+nodes-length B ps ws xs e zero = e
+nodes-length B ps ws xs e (suc l) = layer-length B (drop (paramsTo (B .stride) ws l) ps) (nodesOf B ps ws xs l) (widthAt ws (suc l))
+
 -- ---- a whole row
 -- a row with no fault is as wide as it must be
 pub full : (w : ℕ) (xs : List Float) → rowFault w 14 15 xs ≡ 0 → length xs ≡ w
@@ -176,6 +227,15 @@ at-fault B ps ws xs a b r p n = record {
   second = λ m h. refl;
 }
 
+-- a row with no fault that was copied to the front of a slice
+pub copied-row : (w : ℕ) (xs b c : List Float) → rowFault w 14 15 xs ≡ 0 → c ≡ xs ++ drop (length xs) b → take w c ≡ xs
+copied-row w xs b c f p = ap (take w) p ∙ take-at xs (drop (length xs) b) w (full w xs f)
+
+-- no 20: all values are finite
+pub not-twenty : (r : Bool) → _≡_ {A = ℕ} (cond r 0 20) 0 → r ≡ true
+not-twenty true e = refl
+not-twenty false e = absurd (omega (arith, e))
+
 -- the row was copied to the front of the second slice, and went through the layers from there
 pub through : (B : Basis) (ps : List Float) (ws : List ℕ) (xs a b c a' b' : List Float) (r : Bool) (k : ℕ) → 0 < length ws
     → rowFault (widthAt ws 0) 14 15 xs ≡ 0 → c ≡ xs ++ drop (length xs) b → Layered B ps ws (take (widthAt ws 0) c) a c a' b' r
@@ -183,15 +243,10 @@ pub through : (B : Basis) (ps : List Float) (ws : List ℕ) (xs a b c a' b' : Li
 unfolding rowRefusal
 through B ps ws xs a b c a' b' r k some f p y q =
     let wide : length xs ≡ widthAt ws 0 = full (widthAt ws 0) xs f in
-    let row : take (widthAt ws 0) c ≡ xs = ap (take (widthAt ws 0)) p ∙ take-at xs (drop (length xs) b) (widthAt ws 0) wide in
-    let z : Layered B ps ws xs a c a' b' r = rw row at y in
+    let z : Layered B ps ws xs a c a' b' r = rw (copied-row (widthAt ws 0) xs b c f p) at y in
     record {
       refusal = q ∙ rw (f, z .finite);
-      outputs = λ e. z .outputs (ok r (sym q ∙ e));
+      outputs = λ e. z .outputs (not-twenty r (sym q ∙ e));
       first = z .first;
       second = λ m h. z .second m h ∙ past xs (length xs) m b c refl (le-trans (le-of-eq wide) (h 0 some)) p;
     }
-  where
-    ok : (r : Bool) → _≡_ {A = ℕ} (cond r 0 20) 0 → r ≡ true
-    ok true e = refl
-    ok false e = absurd (omega (arith, e))

@@ -10,7 +10,7 @@ use crate::batch::row_fault;
 use spline::Grid;
 
 // Layer l, from w numbers of the one slice to n of the other; answers whether they are finite.
-fn turn(
+pub fn turn(
     grid: Grid,
     params: &[f32],
     l: usize,

@@ -7,7 +7,7 @@ use native.Mathlib.Omega.{arith}
 use lib.ListN.{length, take, drop}
 use Rattle.layers.specs.Basis.{basisOf}
 use Rattle.rows.proofs.Batches.{row-begins, wide-row}
-use Rattle.network.proofs.Rows.{fits-moved}
+use Rattle.rows.proofs.Passes.{fits-moved}
 use Rattle.network.proofs.Errors.{row-stops, row-adds, Adding, none-added, row-added, sum-stops, sum-ends}
 use Rattle.network.proofs.loss.sum_rows.Statement.{statement}
 use Rattle.network.proofs.loss.sum_rows.Tie as tie

@@ -8,7 +8,8 @@ use Rattle.floats.proofs.Loops.{room, rest-length}
 use Rattle.layers.specs.Basis.{basisOf}
 use Rattle.layers.specs.Widths.{inputWidth, outputWidth}
 use Rattle.rows.proofs.Batches.{row-begins}
-use Rattle.network.proofs.Rows.{fits-moved, Going, before-first, one-row, row-refused, all-rows}
+use Rattle.rows.proofs.Passes.{fits-moved}
+use Rattle.network.proofs.Rows.{Going, before-first, one-row, row-refused, all-rows}
 use Rattle.network.proofs.predict.predict_rows.Statement.{statement}
 use Rattle.network.proofs.predict.predict_rows.Tie as tie
 

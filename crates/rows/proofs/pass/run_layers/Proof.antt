@@ -1,41 +1,17 @@
 -- `rows::run_layers` meets its contract: after l turns the holder has the values of l layers. Assumes nothing.
 use borrow.Author.Needs.{needs}
-use mathlib.Core.Path.{_≡_, refl, sym, ap, _∙_}
-use mathlib.Core.Bool.{Bool, true, false}
+use mathlib.Core.Path.{refl}
 use native.Mathlib.Nat.{le-trans, le-add-left}
-use mathlib.Core.List.{List}
 use Prim.Native.Nat.{ℕ, _+_, _-_, _*_, _≤_, _<_}
 use native.Mathlib.Omega.{arith}
-use lib.ListN.{length, take, drop}
-use lib.Ieee.{Float}
+use lib.ListN.{take}
 use borrow.Author.Tests.{not-true, not-false}
-use Rattle.floats.proofs.Loops.{rest-length, row-room}
-use Rattle.spline.specs.declared.Grid.{Grid}
-use Rattle.layers.specs.Basis.{Basis, basisOf}
-use Rattle.layers.specs.Widths.{widthAt, layerSize, paramsTo}
-use Rattle.layers.proofs.Widths.{params-room}
-use Rattle.rows.specs.Turns.{Fits, AtMost, Turned}
-use Rattle.rows.proofs.Passes.{Kept, kept-turn, Walked, set-out, one-layer, stopped, arrived}
+use Rattle.floats.proofs.Loops.{row-room}
+use Rattle.layers.specs.Basis.{basisOf}
+use Rattle.layers.specs.Widths.{widthAt}
+use Rattle.rows.proofs.Passes.{inside, may-turn, keeps, Walked, set-out, one-layer, stopped, arrived}
 use Rattle.rows.proofs.pass.run_layers.Statement.{statement}
 use Rattle.rows.proofs.pass.run_layers.Tie as tie
-
--- the turn's layer lies within the model
-inside : {g : Grid} {ps : List Float} {ws : List ℕ} {xs a₀ b₀ a b : List Float} (l at : ℕ) → l < length ws - 1 → Fits g ps ws a₀ b₀
-    → Walked (basisOf g) ps ws xs a₀ b₀ l at a b → at + layerSize (g .intervals + 5) ws l ≤ length ps
-inside {g} {ps} {ws} l at h f k = omega (arith, params-room (g .intervals + 5) ws l (length ws - 1) h, k .part, f .params)
-
--- both slices have room for every width
-most : (ws : List ℕ) (a₀ b₀ a b : List Float) → AtMost ws (length a₀) → AtMost ws (length b₀) → Kept ws a₀ b₀ a b
-    → (j : ℕ) → j < length ws → (widthAt ws j ≤ length a) × (widthAt ws j ≤ length b)
-most ws a₀ b₀ a b p q k j h = (omega (arith, p j h, k .sizeA), omega (arith, q j h, k .sizeB))
-
-keeps : {g : Grid} {ps qs : List Float} {ws : List ℕ} {xs a₀ b₀ a b a' b' : List Float} {r : Bool} (l at : ℕ) → l < length ws - 1
-    → Fits g ps ws a₀ b₀ → Walked (basisOf g) ps ws xs a₀ b₀ l at a b
-    → Turned (basisOf g) qs l (widthAt ws l) (widthAt ws (l + 1)) a b a' b' r → Kept ws a₀ b₀ a' b'
-keeps {g} {ps} {qs} {ws} {xs} {a₀} {b₀} {a} {b} {a'} {b'} {r} l at h f k t =
-    let n = most ws a₀ b₀ a b (f .first) (f .second) (k .kept) (l + 1) (omega arith) in
-    kept-turn (basisOf g) qs ws a₀ b₀ l (widthAt ws l) (widthAt ws (l + 1)) a b a' b' r (n .0) (n .1)
-    (λ m q. q (l + 1) (omega arith)) t (k .kept)
 
 abbrev Inv-loop : tie.InvT-loop
 Inv-loop grid widths model first₀ second₀ layers stride at₀ l₀ first second at l =
@@ -113,25 +89,7 @@ turn-requires c κs =
     let at-loop-test = c .before .before .before .before .before in
     let at-loop = at-loop-test .before in
     let start = at-loop .before .before .before .before .before .before in
-    let p = start .pre in
-    let k = at-loop .loop .inv .1 .kept in
-    let w = most _ _ _ _ _ (p .first) (p .second) k (at-loop .loop .l) (omega arith) in
-    let n = most _ _ _ _ _ (p .first) (p .second) k (at-loop .loop .l + 1) (omega arith) in
-    record {
-      grid = p .grid;
-      some = p .positive _ (omega arith);
-      fromFirst = w .0;
-      fromSecond = w .1;
-      toFirst = n .0;
-      toSecond = n .1;
-      params =
-          rw rest-length (omega (
-            arith,
-            inside _ _ (at-loop-test .loop-test .taken)
-                (start .pre)
-                (at-loop .loop .inv .1),
-          ));
-    }
+    may-turn _ _ (at-loop-test .loop-test .taken) (start .pre) (at-loop .loop .inv .1)
 
 same-length : tie.Need-same-length Inv-loop μ-loop
 same-length c =

@@ -1,0 +1,52 @@
+-- `marks::mark_edge` meets its contract. Assumes nothing.
+use mathlib.Core.Path.{_∙_}
+use native.Mathlib.Omega.{arith}
+use lib.ListN.{length-set}
+use Rattle.floats.proofs.Loops.{rest, rest-length}
+use Rattle.marks.specs.Touched.{edgeTouched}
+use Rattle.marks.proofs.Marking.{marked-two}
+use borrow.Author.Needs.{needs}
+use Rattle.marks.proofs.layer.mark_edge.Statement.{statement}
+use Rattle.marks.proofs.layer.mark_edge.Tie as tie
+
+slice-write-map : tie.Need-slice-write-map
+slice-write-map c = search needs
+
+slice-write-map-2 : tie.Need-slice-write-map-2
+slice-write-map-2 c = simp length-set (omega arith)
+
+sub-mark-coefficients : tie.Need-sub-mark-coefficients
+sub-mark-coefficients c = simp length-set (omega arith)
+
+part-mark-coefficients-start : tie.Need-part-mark-coefficients-start
+part-mark-coefficients-start c = simp length-set (omega arith)
+
+part-mark-coefficients-end : tie.Need-part-mark-coefficients-end
+part-mark-coefficients-end c = search needs
+
+mark-coefficients-requires : tie.Need-mark-coefficients-requires
+mark-coefficients-requires c κs =
+    let start = c .before .before in
+    (start .pre .0, rw (rest-length, length-set, length-set) (omega (arith, start .pre .1)))
+
+same-length : tie.Need-same-length
+same-length c = c .before .map .given .1 ∙ simp length-set
+
+returns : tie.Need-returns
+unfolding edgeTouched
+returns c =
+    let start = c .before .before .before .before .before in
+    marked-two _ _ _ (omega (arith, start .pre .1)) (c .before .before .mark-coefficients .ensures ∙ rw rest)
+
+pub mark-edge-spec : {M : Type 1} → statement M
+mark-edge-spec =
+    tie.close
+    (tie.spec
+    slice-write-map
+    slice-write-map-2
+    sub-mark-coefficients
+    part-mark-coefficients-start
+    part-mark-coefficients-end
+    mark-coefficients-requires
+    same-length
+    returns)

@@ -1,0 +1,6 @@
+// Inner crate: which parameters a row touches (specs/), and the marks of one row in a map of one byte per parameter.
+mod layer;
+mod row;
+
+pub use layer::unmark;
+pub use row::mark_row;

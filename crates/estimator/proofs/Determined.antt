@@ -15,6 +15,14 @@ use Rattle.estimator.proofs.kan_train_step as step
 use Rattle.estimator.proofs.kan_train_step.Reads as step-reads
 use Rattle.estimator.proofs.kan_train as train
 use Rattle.estimator.proofs.kan_train.Reads as train-reads
+use Rattle.estimator.proofs.kan_visits as visits
+use Rattle.estimator.proofs.kan_visits.Reads as visits-reads
+use Rattle.estimator.proofs.kan_image_write as write
+use Rattle.estimator.proofs.kan_image_write.Reads as write-reads
+use Rattle.estimator.proofs.kan_image_read as read
+use Rattle.estimator.proofs.kan_image_read.Reads as read-reads
+use Rattle.estimator.proofs.kan_image_unpack as unpack
+use Rattle.estimator.proofs.kan_image_unpack.Reads as unpack-reads
 
 pub check-determined : Determined check.ended check-reads.Post
 check-determined κs a r r′ w w′ p q =
@@ -62,3 +70,34 @@ train-determined κs a r r′ w w′ p q =
       p .number ∙ sym (q .number),
       (λ i. (tt, (tt, (tt, (tt, (model i, (tt, (tt, (tt, (tt, (gradients i, (work i, (done i, (carried i, tt)))))))))))))),
     )
+
+pub visits-determined : Determined visits.ended visits-reads.Post
+visits-determined κs a r r′ w w′ p q =
+    let first = p .first ∙ sym (q .first) in
+    let second = p .second ∙ sym (q .second) in
+    let map = p .map ∙ sym (q .map) in
+    let carried = p .carried ∙ sym (q .carried) in
+    (p .number ∙ sym (q .number), (λ i. (tt, (tt, (tt, (tt, (tt, (tt, (first i, (second i, (map i, (carried i, tt))))))))))))
+
+pub write-determined : Determined write.ended write-reads.Post
+write-determined κs a r r′ w w′ p q =
+    let image = p .image ∙ sym (q .image) in
+    let carried = p .carried ∙ sym (q .carried) in
+    (p .number ∙ sym (q .number), (λ i. (tt, (tt, (tt, (tt, (tt, (image i, (carried i, tt)))))))))
+
+pub read-determined : Determined read.ended read-reads.Post
+read-determined κs a r r′ w w′ p q =
+    let intervals = p .intervals ∙ sym (q .intervals) in
+    let lower = p .lower ∙ sym (q .lower) in
+    let upper = p .upper ∙ sym (q .upper) in
+    let widths = p .widths ∙ sym (q .widths) in
+    let parameters = p .parameters ∙ sym (q .parameters) in
+    let carried = p .carried ∙ sym (q .carried) in
+    (p .number ∙ sym (q .number), (λ i. (tt, (intervals i, (lower i, (upper i, (widths i, (parameters i, (carried i, tt)))))))))
+
+pub unpack-determined : Determined unpack.ended unpack-reads.Post
+unpack-determined κs a r r′ w w′ p q =
+    let widths = p .widths ∙ sym (q .widths) in
+    let model = p .model ∙ sym (q .model) in
+    let carried = p .carried ∙ sym (q .carried) in
+    (p .number ∙ sym (q .number), (λ i. (tt, (widths i, (model i, (carried i, tt))))))

@@ -1,2 +1,4 @@
 pub mod Linkage
 pub mod Trained
+pub mod Visited
+pub mod Images

@@ -1,7 +1,7 @@
 -- `visits::mark_rows` meets its contract: before row r the marks of r rows stand. Assumes nothing.
 use mathlib.Core.Path.{_≡_, refl, sym, _∙_}
 use Prim.Native.Nat.{ℕ, _-_, _≤_, _<_}
-use native.Mathlib.Nat.{le-of-lt, le-of-eq}
+use native.Mathlib.Nat.{le-of-eq}
 use native.Mathlib.Omega.{arith}
 use Rattle.layers.specs.Basis.{basisOf}
 use Rattle.rows.proofs.Batches.{row-begins}
@@ -35,7 +35,7 @@ row-requires : tie.Need-row-requires Inv-loop μ-loop
 row-requires c κs =
     let start = c .before .before .before .before .before .before .before .before .before .before .before .before .before in
     let p = start .pre in
-    le-of-lt (row-begins _ _ _ (p .fits .positive 0 (omega (arith, p .fits .some))) (rw (p .count) at (c .loop-test .taken)))
+    omega (arith, row-begins _ _ _ (p .fits .positive 0 (omega (arith, p .fits .some))) (rw (p .count) at (c .loop-test .taken)))
 
 mark-row-requires : tie.Need-mark-row-requires Inv-loop μ-loop
 mark-row-requires c κs =
@@ -53,7 +53,7 @@ unmark-requires-2 c κs =
     let at-loop = at-mark-row .before .before .before .before .before .before in
     let start = at-loop .before .before .before .before .before .before .before .before .before .before .before .before in
     let now = at-mark-row .mark-row .kept .1 .1 .1 .1 .1 .1 .0 ∙ marks-length _ _ _ _ _ _ (at-loop .loop .inv .1 .bytes) in
-    le-of-eq (start .pre .bytes ∙ sym now)
+    omega (arith, start .pre .bytes, now)
 
 same-length : tie.Need-same-length Inv-loop μ-loop
 same-length c =

@@ -1,0 +1,5 @@
+pub mod Accepted
+pub mod Parts
+pub mod Placed
+pub mod RoundTrip
+pub mod Determined

@@ -1,0 +1,79 @@
+-- `image::check_widths` meets its contract: its loop folds the widths in the bytes, and the state after all of them answers.
+-- Assumes nothing.
+use Prim.Native.Nat.{_≤_, _-_}
+use native.Mathlib.Omega.{arith}
+use mathlib.Core.Path.{_≡_, refl, sym, _∙_}
+use borrow.Author.Needs.{needs}
+use Rattle.config.specs.Fold.{shapeTo}
+use Rattle.config.proofs.Folded.{fold-none, fold-more, verdict-is}
+use Rattle.words.specs.Words.{wordsFrom}
+use Rattle.words.proofs.Tables.{words-length, word-at}
+use Rattle.image.proofs.description.check_widths.Statement.{statement}
+use Rattle.image.proofs.description.check_widths.Tie as tie
+
+abbrev Inv-loop : tie.InvT-loop
+Inv-loop image from count grid each shape₀ i₀ shape i = (i ≤ count) × (shape ≡ shapeTo each (wordsFrom image from count) i)
+
+abbrev μ-loop : tie.MeasureT-loop
+μ-loop image from count grid each shape₀ i₀ shape i = count - i
+
+per-edge-requires : tie.Need-per-edge-requires Inv-loop μ-loop
+per-edge-requires c κs = search needs
+
+new-requires : tie.Need-new-requires Inv-loop μ-loop
+new-requires c κs = search needs
+
+loop-holds : tie.Need-loop-holds Inv-loop μ-loop
+loop-holds c = (omega arith, c .new .ensures ∙ fold-none _ _)
+
+mul-at : tie.Need-mul-at Inv-loop μ-loop
+mul-at c = omega arith
+
+add-at : tie.Need-add-at Inv-loop μ-loop
+add-at c = omega arith
+
+size-requires : tie.Need-size-requires Inv-loop μ-loop
+size-requires c κs = search needs
+
+take-requires : tie.Need-take-requires Inv-loop μ-loop
+take-requires c κs = search needs
+
+add-i : tie.Need-add-i Inv-loop μ-loop
+add-i c = omega arith
+
+loop-less : tie.Need-loop-less Inv-loop μ-loop
+loop-less c = omega arith
+
+loop-again : tie.Need-loop-again Inv-loop μ-loop
+loop-again c = (
+  omega arith,
+  c .take .ensures ∙ fold-more _ _ (c .before .before .before .loop .i) (c .before .before .before .loop .shape) _ (c .before .before .before .loop .inv .1)
+      (c .before .size .ensures .0 ∙ sym (word-at _ _ _ (c .before .before .before .loop .i) (c .before .before .loop-test .taken))),
+)
+
+verdict-requires : tie.Need-verdict-requires Inv-loop μ-loop
+verdict-requires c κs = search needs
+
+returns : tie.Need-returns Inv-loop μ-loop
+returns c =
+    c .verdict .ensures
+    ∙ verdict-is _ _ _ _ (c .before .before .loop .i) (c .before .before .loop .shape) (c .before .before .before .before .per-edge .ensures) (sym (words-length _ _ _)) (omega arith) (c .before .before .loop .inv .1)
+
+pub check-widths-spec : {M : Type 1} → statement M
+check-widths-spec =
+    tie.close
+    (tie.spec
+    Inv-loop
+    μ-loop
+    per-edge-requires
+    new-requires
+    loop-holds
+    mul-at
+    add-at
+    size-requires
+    take-requires
+    add-i
+    loop-less
+    loop-again
+    verdict-requires
+    returns)

@@ -1,0 +1,5 @@
+pub mod Trailer
+pub mod Image
+pub mod Writing
+pub mod Unpacking
+pub mod Steps

@@ -1,0 +1,4 @@
+pub mod Patterns
+pub mod Packs
+pub mod Tables
+pub mod Places

@@ -1,0 +1,73 @@
+-- `words::all_finite` meets its contract: the first word that is not a finite number's decides. Assumes nothing.
+use mathlib.Core.Path.{_≡_, refl, sym, ap, _∙_}
+use mathlib.Core.List.{List, _++_}
+use Prim.Native.Nat.{ℕ, _+_, _-_, _*_, _≤_, _<_}
+use native.Mathlib.Omega.{arith}
+use borrow.Author.Needs.{needs}
+use mathlib.Core.Bool.{Bool, true}
+use lib.ListN.{length}
+use lib.Ieee.{binary32, ofBits}
+use lib.Ieee.Scale.{finite}
+use borrow.Author.Tests.{not-true, not-false}
+use Rattle.floats.specs.Sums.{allTo, finiteAt, allFinite}
+use Rattle.floats.proofs.Loops.{all-none, all-more, all-stop}
+use Rattle.words.specs.Words.{wordAt, floatsIn}
+use Rattle.words.proofs.Tables.{floats-length, finite-at}
+use Rattle.words.proofs.all_finite.Statement.{statement}
+use Rattle.words.proofs.all_finite.Tie as tie
+
+abbrev Inv-loop : tie.InvT-loop
+Inv-loop bytes count i₀ i = (i ≤ count) × (allTo (finiteAt (floatsIn bytes count)) i ≡ true)
+
+abbrev μ-loop : tie.MeasureT-loop
+μ-loop bytes count i₀ i = count - i
+
+-- what the test of a word says of the numbers
+seen : (bs : List ℕ) (i n w : ℕ) (r : Bool) → i < n → w ≡ wordAt bs (i * 4) → r ≡ finite (ofBits binary32 w)
+    → r ≡ finiteAt (floatsIn bs n) i
+seen bs i n w r h p q = q ∙ ap (λ (v : ℕ). finite (ofBits binary32 v)) p ∙ finite-at bs n i h
+
+loop-holds : tie.Need-loop-holds Inv-loop μ-loop
+loop-holds c = (omega arith, all-none _)
+
+mul-at : tie.Need-mul-at Inv-loop μ-loop
+mul-at c = omega arith
+
+word-requires : tie.Need-word-requires Inv-loop μ-loop
+word-requires c κs = omega arith
+
+is-finite-requires : tie.Need-is-finite-requires Inv-loop μ-loop
+is-finite-requires c κs = search needs
+
+returns : tie.Need-returns Inv-loop μ-loop
+unfolding allFinite
+returns c = rw floats-length (sym (all-stop _ (c .before .before .before .before .loop .i) _ (c .before .before .before .loop-test .taken) (sym (seen _ (c .before .before .before .before .loop .i) _ _ _ (c .before .before .before .loop-test .taken) (c .before .before .word .ensures) (c .before .is-finite .ensures)) ∙ not-true _ (c .if1 .taken))))
+
+add-i : tie.Need-add-i Inv-loop μ-loop
+add-i c = omega arith
+
+loop-less : tie.Need-loop-less Inv-loop μ-loop
+loop-less c = omega arith
+
+loop-again : tie.Need-loop-again Inv-loop μ-loop
+loop-again c = (omega arith, all-more _ (c .before .before .before .before .loop .i) (c .before .before .before .before .loop .inv .1) (sym (seen _ (c .before .before .before .before .loop .i) _ _ _ (c .before .before .before .loop-test .taken) (c .before .before .word .ensures) (c .before .is-finite .ensures)) ∙ not-false _ (c .if1 .left)))
+
+returns-2 : tie.Need-returns-2 Inv-loop μ-loop
+unfolding allFinite
+returns-2 c = rw floats-length (sym (c .before .loop .inv .1) ∙ ap (allTo _) (omega arith))
+
+pub all-finite-spec : {M : Type 1} → statement M
+all-finite-spec =
+    tie.close
+    (tie.spec
+    Inv-loop
+    μ-loop
+    loop-holds
+    mul-at
+    word-requires
+    is-finite-requires
+    returns
+    add-i
+    loop-less
+    loop-again
+    returns-2)

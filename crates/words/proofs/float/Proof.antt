@@ -1,0 +1,18 @@
+-- `words::float` meets its contract. Assumes nothing.
+use mathlib.Core.Path.{ap, _∙_}
+use lib.Ieee.{binary32, ofBits}
+use borrow.Author.Needs.{needs}
+use Rattle.words.proofs.float.Statement.{statement}
+use Rattle.words.proofs.float.Tie as tie
+
+word-requires : tie.Need-word-requires
+word-requires c κs = search needs
+
+float-of-requires : tie.Need-float-of-requires
+float-of-requires c κs = search needs
+
+returns : tie.Need-returns
+returns c = c .float-of .ensures ∙ ap (ofBits binary32) (c .before .word .ensures)
+
+pub float-spec : {M : Type 1} → statement M
+float-spec = tie.close (tie.spec word-requires float-of-requires returns)

@@ -14,6 +14,7 @@
  *   P   the number of parameters: the sum over neighbouring widths of
  *       in * out * (g + 5); kan_check tells it
  *   W   the largest width, the input width too
+ *   N   the sum of the widths
  *
  * A model is P floats. Layer follows layer; in a layer the edges stand output
  * by output, and for each output input by input; an edge is its base weight,
@@ -51,12 +52,17 @@
  *   21  squared error not finite
  *   22  sum of squared errors not finite
  *   23  an updated parameter not finite
+ *   24  image longer than 8,388,608 bytes
+ *   25  image version not 1; carries it
+ *   26  degree not 3
+ *   27  image malformed
  *
  * "Configuration" below stands for 1, 2, 3, 4 with the domain [-1, 1], layer by
  * layer 5 and 6, then 7, then 4 with the given domain, in this order.
  *
  * `carried` is always written: what the refusal carries, and 0 where it carries
- * nothing and on success. Any other lent number is written on success only.
+ * nothing and on success. Any other lent number is written on success only, but
+ * for `done`, which is always written.
  *
  * No function allocates, or keeps anything between calls: threads may call at
  * the same time, each with its own buffers to write. What a call only reads
@@ -64,7 +70,7 @@
  *
  * What the caller owes, since no function can check it:
  *   - each pointer is valid for its length, counted in elements; null is fine
- *     with length 0. `carried`, `parameters` and `loss` are never null.
+ *     with length 0. A pointer to a single number, as `carried`, is never null.
  *   - buffers, and the lent numbers too, do not overlap.
  *   - rounding is to nearest, and subnormals are kept: a thread that flushes
  *     them to zero, as games often do, must not do so during a call.
@@ -134,6 +140,94 @@ uint32_t kan_loss(const size_t *widths, size_t widths_len, size_t intervals, flo
                   const float *model, size_t model_len, const float *inputs, size_t inputs_len,
                   const float *targets, size_t targets_len, float *first, size_t first_len,
                   float *second, size_t second_len, float *loss, size_t *carried);
+
+/*
+ * One step of gradient descent on the mean squared error of a batch: from each
+ * parameter, `rate` times its gradient is taken away. `gradients` has at least
+ * P floats and `work` at least 2N.
+ *
+ * Refusals: configuration, 8, 9, 11, 12, 13, each input row's 14 and 15, each
+ * target row's 16 and 17, 18, 19, then 20 in any row, then 23. 7 carries the
+ * total; no row is carried.
+ * Memory: on success `model` holds the updated parameters; refused, it is
+ * unchanged. Past check 9, and after success too, the first P floats of
+ * `gradients` and the first 2N of `work` are +0.0; else they are unchanged.
+ * Beyond that neither is ever touched.
+ */
+uint32_t kan_train_step(const size_t *widths, size_t widths_len, size_t intervals, float lo, float hi,
+                        float *model, size_t model_len, const float *inputs, size_t inputs_len,
+                        const float *targets, size_t targets_len, float rate,
+                        float *gradients, size_t gradients_len, float *work, size_t work_len, size_t *carried);
+
+/*
+ * So many steps, each as kan_train_step makes it. 0 steps makes all checks up
+ * to 19 and no step.
+ *
+ * Refusals: as kan_train_step; 20 and 23 come step by step.
+ * Memory: `done` is always written: the steps made, all of them on success and
+ * 0 when refused before the first. `model` is as it stands after that many
+ * steps: what was learnt before a refused step is kept. `gradients` and `work`
+ * as in kan_train_step.
+ */
+uint32_t kan_train(const size_t *widths, size_t widths_len, size_t intervals, float lo, float hi,
+                   float *model, size_t model_len, const float *inputs, size_t inputs_len,
+                   const float *targets, size_t targets_len, size_t steps, float rate,
+                   float *gradients, size_t gradients_len, float *work, size_t work_len,
+                   size_t *done, size_t *carried);
+
+/*
+ * The visit map of a batch, one byte for each parameter: a coefficient's is 1
+ * when its basis value is not zero at some number that its edge reads, a
+ * weight's when there is any row; else 0. `map` has P bytes, and the two work
+ * slices `first` and `second` at least W floats each. No rows is fine.
+ *
+ * Refusals: configuration, 8, 9, 10, 11, then row by row 14, 15, 20. 7 carries
+ * the total; 14, 15 and 20 carry the row, counted from 0.
+ * Memory: on success all of `map` is written; after 14, 15 or 20 it is all 0;
+ * after any other refusal it is unchanged. Work as in kan_predict.
+ */
+uint32_t kan_visits(const size_t *widths, size_t widths_len, size_t intervals, float lo, float hi,
+                    const float *model, size_t model_len, const float *inputs, size_t inputs_len,
+                    float *first, size_t first_len, float *second, size_t second_len,
+                    uint8_t *map, size_t map_len, size_t *carried);
+
+/*
+ * Writes a model's image: little-endian words of four bytes, the P parameters'
+ * bits, the widths, then a trailer of eight: the distances from the end to the
+ * first parameter and to the first width, the number of widths, g, the bits of
+ * lo and hi, the degree 3, the version 1. `image` has
+ * 32 + 4 * widths_len + 4 * P bytes. The seed is not in it.
+ *
+ * Refusals: configuration, 8, 10, 11. 7 carries the total.
+ * Memory: on success all of `image` is written; refused, it is unchanged.
+ */
+uint32_t kan_image_write(const size_t *widths, size_t widths_len, size_t intervals, float lo, float hi,
+                         const float *model, size_t model_len, uint8_t *image, size_t image_len, size_t *carried);
+
+/*
+ * Checks an image, whatever its bytes, and tells what it holds: g, the domain,
+ * how many widths and how many parameters.
+ *
+ * Refusals: 24, 27 (shorter than 32 bytes), 25, 26, 27 (the widths' distance),
+ * configuration, 27 (the length, or the parameters' distance), 11. 7 carries
+ * the total, 25 the version.
+ * Memory: on success `intervals`, `lo`, `hi`, `widths` and `parameters` are
+ * written; refused, they are unchanged.
+ */
+uint32_t kan_image_read(const uint8_t *image, size_t image_len, size_t *intervals, float *lo, float *hi,
+                        size_t *widths, size_t *parameters, size_t *carried);
+
+/*
+ * Takes the widths and the parameters out of an image, each bit as it was
+ * written. kan_image_read tells how many there are.
+ *
+ * Refusals: those of kan_image_read, then 10 where `widths_len` or `model_len`
+ * is not that number. 7 carries the total, 25 the version.
+ * Memory: on success all of `widths` and `model` is written; refused, both are
+ * unchanged.
+ */
+uint32_t kan_image_unpack(const uint8_t *image, size_t image_len, size_t *widths, size_t widths_len,
+                          float *model, size_t model_len, size_t *carried);
 
 #ifdef __cplusplus
 }

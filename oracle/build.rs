@@ -14,6 +14,12 @@ fn main() {
     let archives = folder(root, "ESTIMATOR_LIB", "target/staticlib");
     println!("cargo:rustc-link-search=native={}", archives.display());
     println!("cargo:rerun-if-changed={}", archives.display());
+    // What bench/run.sh compiles for the program `bench`.
+    let by_hand = folder(root, "HANDWRITTEN_LIB", "target/bench");
+    println!("cargo:rustc-link-search=native={}", by_hand.display());
+    if by_hand.is_dir() {
+        println!("cargo:rerun-if-changed={}", by_hand.display());
+    }
     println!("cargo:rerun-if-changed=build.rs");
 }
 

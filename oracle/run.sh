@@ -3,6 +3,7 @@
 #   oracle/run.sh self-test | lists
 #   oracle/run.sh leaves [--every N] [--offset M] [--basis N]
 #   oracle/run.sh calls [--rounds N] [--seed S] [--large]
+#   oracle/run.sh bench .. (bench/run.sh makes what it needs)
 # KAN_RUST: folder of the ported Rust; ESTIMATOR_LIB: folder of the proved code's archives.
 # Status 3: something that is needed is not here and can't be installed.
 set -euo pipefail
@@ -51,8 +52,8 @@ need_archive() {
 case $program in
     self-test | lists) ;;
     leaves) need_archive leaves ;;
-    calls) need_archive estimator ;;
-    *) stop "name a program: self-test, lists, leaves or calls" 2 ;;
+    calls | bench) need_archive estimator ;;
+    *) stop "name a program: self-test, lists, leaves, calls or bench" 2 ;;
 esac
 shift
 

@@ -1,0 +1,33 @@
+#!/usr/bin/env bash
+# Instructions of one call on 16 rows of [8, 16, 1], as valgrind counts them: a figure that other work on the machine does
+# not move. bench/run.sh runs it; --training 0 leaves training out.
+set -euo pipefail
+cd "$(dirname "$0")/.."
+
+rows=16
+program=target/oracle/release/bench
+[ -x $program ] || { echo "no $program: bench/run.sh makes it" >&2; exit 3; }
+log=target/bench/callgrind.txt
+
+# counted INTERVALS TRAINING FUNCTION..: for each row, the instructions of each function and of what it calls
+counted() {
+    local out=target/bench/callgrind.out
+    rm -f $out
+    valgrind --tool=callgrind --callgrind-out-file=$out $program --once-rows $rows --once-intervals "$1" --training "$2" \
+        >$log 2>&1 || { cat $log; exit 1; }
+    for name in "${@:3}"; do
+        callgrind_annotate --inclusive=yes --threshold=100 $out |
+            awk -v name="$name" -v rows=$rows '$0 ~ name { gsub(",", "", $1); printf " %.0f |", $1 / rows; exit }'
+    done
+}
+
+printf '\nInstructions for each row, [8, 16, 1]\n\n'
+echo "| call | g | Rust | library | by hand |"
+echo "|---|---|---|---|---|"
+for g in 5 16 64 256; do
+    echo "| predict | $g |$(counted $g 0 Kan::predict_batch :kan_predict :hand_predict)"
+done
+[[ " $* " != *" --training 0 "* ]] || exit 0
+for g in 5 16 64 256; do
+    echo "| train_step | $g |$(counted $g 1 Kan::train_step :kan_train_step :hand_train_step)"
+done

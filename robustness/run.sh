@@ -1,0 +1,54 @@
+#!/usr/bin/env bash
+# The C++ side beyond its tests: header_test plainly, under sanitizers, under valgrind's memory and thread checkers; the
+# example under sanitizers; a fuzzer of the image reader and one of prediction and training. `make robustness` runs it.
+# FUZZ_SECONDS: how long each fuzzer runs (default 60). Sanitizers see the C++ code alone; valgrind sees the library too, and
+# the fuzzers lend it memory that ends at a closed page. What guides them is the coverage of what they compare it with.
+set -euo pipefail
+cd "$(dirname "$0")/.."
+
+scripts/need.sh g++=g++ clang++=clang valgrind=valgrind
+scripts/need.sh "/usr/lib/llvm-*/lib/clang/*/lib/linux/libclang_rt.fuzzer-*.a=libclang-rt-$(clang -dumpversion | cut -d. -f1)-dev"
+archive=${ESTIMATOR_LIB:-target/staticlib}/libestimator.a
+out=target/robustness
+mkdir -p $out
+warnings=(-Wall -Wextra -Wpedantic -Wshadow -Werror -g -O1 -Iinclude)
+sanitizers=("-fsanitize=address,undefined" -fno-sanitize-recover=all)
+
+# build OUTPUT COMPILER ARGUMENT..
+build() {
+    "$2" "${warnings[@]}" "${@:3}" "$archive" -pthread -o "$out/$1"
+}
+
+for standard in 17 20; do
+    echo "header_test, C++$standard: with -ffast-math, plain, with address and undefined-behaviour sanitizers"
+    build header_test g++ -std=c++$standard -O2 -ffast-math robustness/header_test.cpp
+    $out/header_test
+    build header_test g++ -std=c++$standard robustness/header_test.cpp
+    $out/header_test
+    build header_test.sanitized g++ -std=c++$standard "${sanitizers[@]}" robustness/header_test.cpp
+    $out/header_test.sanitized
+done
+echo "header_test under valgrind: memory, then threads"
+valgrind --quiet --error-exitcode=1 --leak-check=full $out/header_test emulated
+valgrind --quiet --error-exitcode=1 --tool=helgrind $out/header_test emulated
+
+echo "the example under sanitizers"
+build scheduler.sanitized g++ -std=c++17 "${sanitizers[@]}" examples/scheduler/main.cpp
+$out/scheduler.sanitized examples/scheduler/files.csv $out/model.kan | tail -n 1
+
+# fuzz NAME FOLDER SOURCE..: builds a fuzzer and runs it on the folder's samples
+fuzz() {
+    local log=$out/$1.log
+    echo "$1, ${FUZZ_SECONDS:-60} seconds"
+    build "$1" clang++ -std=c++17 -ffp-contract=off -fsanitize=fuzzer "${sanitizers[@]}" "${@:3}"
+    mkdir -p "$2"
+    "$out/$1" -max_len=2048 -use_value_profile=1 -max_total_time="${FUZZ_SECONDS:-60}" -artifact_prefix=$out/ "$2" \
+        >"$log" 2>&1 || { tail -n 40 "$log"; exit 1; }
+    grep -E '^(Done|answers)' "$log"
+}
+
+build seeds g++ -std=c++17 robustness/seeds.cpp
+mkdir -p $out/images
+$out/seeds $out/images
+fuzz fuzz_image $out/images robustness/fuzz_image.cpp
+fuzz fuzz_calls $out/calls robustness/fuzz_calls.cpp bench/handwritten.cpp

@@ -5,7 +5,7 @@ use native.Mathlib.Nat.{add-zero, sub-zero, eq-or-lt-of-le, le-of-suc-le-suc}
 use native.Mathlib.Numerals.{add-one}
 use native.Mathlib.Omega.{arith}
 use mathlib.Core.Path.{_≡_, refl, sym, ap, _∙_}
-use mathlib.Core.Bool.{Bool, true, false, _&&_}
+use mathlib.Core.Bool.{Bool, true, false, _&&_, true≢false}
 use mathlib.Core.Logic.{inl, inr, ⊎-elim}
 use mathlib.Core.List.{List, [], _∷_, _++_, append-assoc, append-nil}
 use lib.ListN.{length, take, drop, getD, set, length-append, length-drop}
@@ -103,6 +103,13 @@ unfolding allTo
 all-stop p i zero h e = absurd (omega arith)
 all-stop p i (suc n) h e =
     ⊎-elim (λ (q : i ≡ n). rw (← q, e) (and-false (allTo p i))) (λ l. rw (all-stop p i n l e)) (eq-or-lt-of-le (omega arith))
+
+pub all-each : (p : ℕ → Bool) (n : ℕ) → allTo p n ≡ true → (k : ℕ) → k < n → p k ≡ true
+all-each p n a k h = go (p k) refl
+  where
+    go : (b : Bool) → p k ≡ b → p k ≡ true
+    go true e = e
+    go false e = absurd (true≢false (sym a ∙ all-stop p k n h e))
 
 -- ---- lists one after the other
 pub flat-length : {A : Type 0} (f : ℕ → List A) (s : ℕ) → ((j : ℕ) → length (f j) ≡ s) → (n : ℕ) → length (flatTo f n) ≡ n * s

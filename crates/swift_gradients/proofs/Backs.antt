@@ -1,0 +1,76 @@
+-- One edge back by four slopes, where it lies among a layer's, and the sum over the outputs. Assumes nothing.
+use mathlib.Core.Path.{_≡_, refl, sym, ap, _∙_}
+use Prim.Native.Nat.{ℕ, _+_, _-_, _*_, _≤_, _<_}
+use native.Mathlib.Nat.{mul-assoc, add-mul}
+use native.Mathlib.Omega.{arith}
+use mathlib.Core.List.{List}
+use lib.ListN.{length, take, drop}
+use lib.Seq.{drop-drop}
+use lib.Ieee.{Float, fits}
+use Rattle.floats.specs.Binary32.{_⊕_, _⊗_, zero32}
+use Rattle.floats.specs.Sums.{sumTo, tabulate, at}
+use Rattle.floats.proofs.Sums.{sum-ext}
+use Rattle.spline.specs.declared.Grid.{Grid}
+use Rattle.spline.specs.Spline.{slopeOf}
+use Rattle.spline.specs.Activation.{siluDerivativeOf}
+use Rattle.support.specs.declared.Four.{Four}
+use Rattle.support.specs.Support.{Slopes, fourDot, Finite}
+use Rattle.support.proofs.Apart.{wide}
+use Rattle.support.proofs.Dots.{dot-four, shift-dot, finite-drop}
+use Rattle.layers.specs.Basis.{Basis, basisOf}
+use Rattle.layers.specs.Layer.{dotOf}
+use Rattle.floats.specs.Places.{partAt, writtenAt}
+use Rattle.floats.proofs.Places.{part-length, read-after, read-one}
+use Rattle.swift_layers.specs.Swift.{edgeFour, Edges}
+use Rattle.swift_layers.proofs.Edges.{edge-finite}
+use Rattle.gradients.specs.Gradient.{backOf, inputGradient}
+use Rattle.swift_gradients.specs.Swift.{backAt, backFour}
+
+pub back-is : (g : Grid) (ps : List Float) (x s up : Float) (r : Four) → s ≡ siluDerivativeOf x → Slopes g x r
+    → Finite (g .intervals + 5) ps
+    → up ⊗ edgeFour ps s r ≡ backOf (basisOf g) ps x up
+unfolding backOf dotOf
+back-is g ps x s up r e v p =
+    let q : r .start + 2 ≡ 2 + r .start = omega arith in
+    let f = finite-drop 2 (g .intervals + 3) (g .intervals + 5) ps p (omega arith) in
+    ap (λ (y : Float). up ⊗ ((at ps 0 ⊗ y) ⊕ (at ps 1 ⊗ fourDot ps (r .start + 2) r))) e
+    ∙ ap (λ (y : Float). up ⊗ ((at ps 0 ⊗ siluDerivativeOf x) ⊕ (at ps 1 ⊗ y)))
+    (ap (λ (k : ℕ). fourDot ps k r) q ∙ shift-dot ps 2 (r .start) r
+    ∙ dot-four (g .intervals + 3) (λ (k : ℕ). slopeOf g k x) (drop 2 ps) r v f)
+
+-- the two ways to an edge
+pub edge-place : (ps : List Float) (o w i s : ℕ) → drop (i * s) (drop (o * (w * s)) ps) ≡ drop ((o * w + i) * s) ps
+edge-place ps o w i s =
+    drop-drop (i * s) (o * (w * s)) ps
+    ∙ ap (λ (k : ℕ). drop k ps) (ap (λ (k : ℕ). k + i * s) (sym (mul-assoc o w s)) ∙ sym (add-mul (o * w) i s))
+
+module _ {g : Grid} {ps : List Float} {w i n : ℕ} (r : Edges g ps w i n) where
+  -- the sum by four slopes is the sum
+  pub all-back : (x s : Float) (f : Four) (ups : List Float) (z : Float) → s ≡ siluDerivativeOf x → Slopes g x f
+      → z ≡ sumTo (backFour ps (w * (g .intervals + 5)) (i * (g .intervals + 5)) s f ups) n
+      → z ≡ sumTo (backAt (basisOf g) ps w x ups i) n
+  all-back x s f ups z e v p =
+      let st = g .intervals + 5 in
+      p ∙ sum-ext zero32 (backFour ps (w * st) (i * st) s f ups) (backAt (basisOf g) ps w x ups i) n
+      (λ o h. back-is g (drop (i * st) (drop (o * (w * st)) ps)) x s (at ups o) f e v (edge-finite r o h)
+      ∙ ap (λ (l : List Float). backOf (basisOf g) l x (at ups o)) (edge-place ps o w i st))
+
+-- as the definition has it, over the list of inputs
+pub same-back : (B : Basis) (ps xs ups : List Float) (w i n : ℕ) (x : Float) → w ≡ length xs → x ≡ at xs i → n ≡ length ups
+    → sumTo (backAt B ps w x ups i) n ≡ inputGradient B ps xs ups i
+same-back B ps xs ups w i n x p q m = rw (p, q, m)
+
+-- a turn has worked out the gradient at the input that stands at b + i
+pub back-turn : (B : Basis) (ps W e : List Float) (a n b w i : ℕ) (y : Float)
+    → e ≡ writtenAt W a (tabulate (inputGradient B ps (partAt W b w) (partAt W (a + w) n)) i) → a + w + n ≤ length W → b + w ≤ a → i < w
+    → (let us = take (a + w + n - (a + w)) (drop (a + w) e) in y ≡ sumTo (backAt B ps w (at e (b + i)) us i) (length us))
+    → y ≡ inputGradient B ps (partAt W b w) (partAt W (a + w) n) i
+back-turn B ps W e a n b w i y p h l k q =
+    let xs = partAt W b w in
+    let us = take (a + w + n - (a + w)) (drop (a + w) e) in
+    let G = inputGradient B ps xs (partAt W (a + w) n) in
+    let fits : a + i ≤ length W = omega arith in
+    let wide : w ≡ length xs = sym (part-length W b w (omega arith)) in
+    let x : at e (b + i) ≡ at xs i = read-one G W e a i p fits b w i l k in
+    q ∙ same-back B ps xs us w i (length us) (at e (b + i)) wide x refl
+    ∙ ap (λ (z : List Float). inputGradient B ps xs z i) (read-after G W e a i p fits (a + w) n (omega arith))

@@ -1,0 +1,118 @@
+// What a layer hands back to its inputs, within one slice: the inputs stand at `from`, their gradients are written at `to`, and
+// the gradients at the outputs stand just after them.
+ghost use mathlib.Core.Path.{_≡_};
+ghost use mathlib.Core.Bool.{true};
+ghost use Prim.Native.Nat.{_+_, _*_, _≤_};
+ghost use lib.ListN.{length};
+ghost use Rattle.floats.specs.Places.{partAt, writtenAt};
+ghost use Rattle.floats.specs.Sums.{sumTo, sumFrom};
+ghost use Rattle.exponential.specs.Steps.{Powers};
+ghost use Rattle.support.specs.Support.{calmOf, Finite};
+ghost use Rattle.layers.specs.Basis.{basisOf, Basis};
+ghost use Rattle.swift_layers.specs.Swift.{Within, Edges};
+ghost use Rattle.gradients.specs.Gradient.{backLayer};
+ghost use Rattle.swift_gradients.specs.Swift.{backAt};
+use spline::Grid;
+
+// The gradient at x, the i-th of w inputs.
+fn input_gradient(
+    grid: Grid,
+    table: &[u32; 256],
+    params: &[f32],
+    w: usize,
+    x: f32,
+    ups: &[f32],
+    i: usize,
+) -> f32
+    requires { ⌜ Edges grid (now params) w i (length (now ups)) × Powers (now table) × (calmOf grid ≡ true) ⌝ }
+    ensures { λ r. ⌜ r ≡ sumTo (backAt (basisOf grid) (now (params .entry)) w x (now (ups .entry)) i) (length (now (ups .entry))) ⌝ }
+{
+    let stride = grid.intervals + 5;
+    let row = w * stride;
+    let first = i * stride;
+    let rise = spline::silu_derivative_by(table, x);
+    let four = support::slopes_at(grid, spline::width(grid), x);
+    let mut gradient: f32 = 0.0;
+    for o in 0..ups.len() {
+        let at = o * row + first;
+        gradient = gradient + ups[o] * swift_layers::edge_by(&params[at..], rise, four);
+    }
+    gradient
+}
+
+fn back_four(
+    grid: Grid,
+    table: &[u32; 256],
+    params: &[f32],
+    work: &mut [f32],
+    from: usize,
+    w: usize,
+    to: usize,
+    n: usize,
+)
+    requires { ⌜ Within grid (now params) (now work) from w to n (to + w + n) × Powers (now table)
+        × Finite (n * (w * (grid .intervals + 5))) (now params) × (calmOf grid ≡ true) ⌝ }
+    ensures { λ _. ⌜ now (work .exit) ≡ writtenAt (now (work .entry)) to
+        (backLayer (basisOf grid) (now (params .entry)) (partAt (now (work .entry)) from w) (partAt (now (work .entry)) (to + w) n)) ⌝ }
+{
+    let ups = to + w;
+    let ups_end = ups + n;
+    for i in 0..w {
+        let source = from + i;
+        let place = to + i;
+        let x = work[source];
+        let gradient = input_gradient(grid, table, params, w, x, &work[ups..ups_end], i);
+        work[place] = gradient;
+    }
+}
+
+fn back_plain(
+    grid: Grid,
+    params: &[f32],
+    work: &mut [f32],
+    from: usize,
+    w: usize,
+    to: usize,
+    n: usize,
+)
+    requires { ⌜ Within grid (now params) (now work) from w to n (to + w + n) ⌝ }
+    ensures { λ _. ⌜ now (work .exit) ≡ writtenAt (now (work .entry)) to
+        (backLayer (basisOf grid) (now (params .entry)) (partAt (now (work .entry)) from w) (partAt (now (work .entry)) (to + w) n)) ⌝ }
+{
+    let end = from + w;
+    let ups = to + w;
+    let ups_end = ups + n;
+    for i in 0..w {
+        let place = to + i;
+        let gradient = gradients::input_gradient(
+            grid,
+            params,
+            &work[from..end],
+            &work[ups..ups_end],
+            i,
+        );
+        work[place] = gradient;
+    }
+}
+
+pub fn back_layer(
+    grid: Grid,
+    table: &[u32; 256],
+    params: &[f32],
+    work: &mut [f32],
+    from: usize,
+    w: usize,
+    to: usize,
+    n: usize,
+)
+    requires { ⌜ Within grid (now params) (now work) from w to n (to + w + n) × Powers (now table)
+        × Finite (n * (w * (grid .intervals + 5))) (now params) ⌝ }
+    ensures { λ _. ⌜ now (work .exit) ≡ writtenAt (now (work .entry)) to
+        (backLayer (basisOf grid) (now (params .entry)) (partAt (now (work .entry)) from w) (partAt (now (work .entry)) (to + w) n)) ⌝ }
+{
+    if support::calm(grid) {
+        back_four(grid, table, params, work, from, w, to, n);
+    } else {
+        back_plain(grid, params, work, from, w, to, n);
+    }
+}

@@ -1,0 +1,91 @@
+// One input's edges, added to every output of a layer. The input itself is handed over, so that it may stand in the same slice
+// as the outputs.
+ghost use mathlib.Core.Path.{_≡_};
+ghost use mathlib.Core.Bool.{true};
+ghost use Prim.Native.Nat.{_+_, _≤_};
+ghost use lib.ListN.{length};
+ghost use Rattle.exponential.specs.Steps.{Powers};
+ghost use Rattle.support.specs.Support.{calmOf};
+ghost use Rattle.layers.specs.Basis.{basisOf, Basis};
+ghost use Rattle.swift_layers.specs.Swift.{edgeFour, addedInput, Edges};
+use spline::Grid;
+use support::Four;
+
+// An edge from four values and SiLU; from four slopes and the rise of SiLU, its slope.
+pub fn edge_by(params: &[f32], silu: f32, four: Four) -> f32
+    requires { ⌜ four .start + 6 ≤ length (now params) ⌝ }
+    ensures { λ r. ⌜ r ≡ edgeFour (now (params .entry)) silu four ⌝ }
+{
+    let at = four.start + 2;
+    let low = 0.0 + params[at] * four.first + params[at + 1] * four.second;
+    let curve = low + params[at + 2] * four.third + params[at + 3] * four.fourth;
+    params[0] * silu + params[1] * curve
+}
+
+fn add_four(
+    grid: Grid,
+    table: &[u32; 256],
+    params: &[f32],
+    w: usize,
+    j: usize,
+    x: f32,
+    outputs: &mut [f32],
+    n: usize,
+)
+    requires { ⌜ Edges grid (now params) w j n × (n ≤ length (now outputs)) × Powers (now table) × (calmOf grid ≡ true) ⌝ }
+    ensures { λ _. ⌜ now (outputs .exit) ≡ addedInput (basisOf grid) (now (params .entry)) w j x (now (outputs .entry)) n ⌝ }
+{
+    let stride = grid.intervals + 5;
+    let row = w * stride;
+    let first = j * stride;
+    let silu = spline::silu_by(table, x);
+    let four = support::values_at(grid, spline::width(grid), x);
+    for o in 0..n {
+        let at = o * row + first;
+        outputs[o] = outputs[o] + edge_by(&params[at..], silu, four);
+    }
+}
+
+fn add_plain(
+    grid: Grid,
+    table: &[u32; 256],
+    params: &[f32],
+    w: usize,
+    j: usize,
+    x: f32,
+    outputs: &mut [f32],
+    n: usize,
+)
+    requires { ⌜ Edges grid (now params) w j n × (n ≤ length (now outputs)) × Powers (now table) ⌝ }
+    ensures { λ _. ⌜ now (outputs .exit) ≡ addedInput (basisOf grid) (now (params .entry)) w j x (now (outputs .entry)) n ⌝ }
+{
+    let stride = grid.intervals + 5;
+    let row = w * stride;
+    let first = j * stride;
+    let silu = spline::silu_by(table, x);
+    for o in 0..n {
+        let at = o * row + first;
+        outputs[o] = outputs[o] + layers::edge(grid, &params[at..], x, silu);
+    }
+}
+
+pub fn add_input(
+    grid: Grid,
+    calm: bool,
+    table: &[u32; 256],
+    params: &[f32],
+    w: usize,
+    j: usize,
+    x: f32,
+    outputs: &mut [f32],
+    n: usize,
+)
+    requires { ⌜ Edges grid (now params) w j n × (n ≤ length (now outputs)) × Powers (now table) × (calm ≡ calmOf grid) ⌝ }
+    ensures { λ _. ⌜ now (outputs .exit) ≡ addedInput (basisOf grid) (now (params .entry)) w j x (now (outputs .entry)) n ⌝ }
+{
+    if calm {
+        add_four(grid, table, params, w, j, x, outputs, n);
+    } else {
+        add_plain(grid, table, params, w, j, x, outputs, n);
+    }
+}

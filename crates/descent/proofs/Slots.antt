@@ -25,7 +25,7 @@ use Rattle.descent.proofs.Spans.{Stand, widths-more, widths-room}
 use Rattle.descent.proofs.Ups.{back-length}
 
 -- parts as long as the layers are as long together as the layers
-flat-params : (per : ℕ) (ws : List ℕ) (f : ℕ → List Float) (n : ℕ) → ((l : ℕ) → l < n → length (f l) ≡ layerSize per ws l)
+pub flat-params : (per : ℕ) (ws : List ℕ) (f : ℕ → List Float) (n : ℕ) → ((l : ℕ) → l < n → length (f l) ≡ layerSize per ws l)
     → length (flatTo f n) ≡ paramsTo per ws n
 unfolding flatTo paramsTo
 flat-params per ws f zero h = refl
@@ -72,7 +72,7 @@ module _ (B : Basis) (ps : List Float) (ws : List ℕ) (xs ts : List Float) (sca
     nodes-length zero = wide
     nodes-length (suc l) = passes.layer-length B _ _ _
 
-    ups-length : (l k : ℕ) → length (upsOf B ps ws xs ts scale l k) ≡ widthAt ws l
+    pub ups-length : (l k : ℕ) → length (upsOf B ps ws xs ts scale l k) ≡ widthAt ws l
     unfolding upsOf
     ups-length l zero = tab-length _ _
     ups-length l (suc k) = back-length B _ _ _ ∙ nodes-length l

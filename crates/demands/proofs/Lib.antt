@@ -1,0 +1,15 @@
+pub mod Tests
+pub mod Layers
+pub mod Places
+pub mod Passes
+pub mod Predicting
+pub mod Losing
+pub mod Cells
+pub mod Rows
+pub mod Rates
+pub mod Moves
+pub mod Steps
+pub mod Training
+pub mod Demand
+pub mod Start
+pub mod Hidden

@@ -1,0 +1,5 @@
+pub mod Silent
+pub mod Readings
+pub mod Alike
+pub mod Demand
+pub mod Start

@@ -1,0 +1,54 @@
+-- "every number their edges read before a call ends" (demand 3), call by call: which rows go through the layers, on which model.
+-- A row that comes after a refusal is not read. Definitions only.
+use Prim.Native.Nat.{ℕ, _<_}
+use mathlib.Core.Path.{_≡_}
+use mathlib.Core.Bool.{true}
+use mathlib.Core.List.{List}
+use lib.Ieee.{Float}
+use Rattle.floats.specs.Sums.{allTo}
+use Rattle.layers.specs.Basis.{Basis}
+use Rattle.layers.specs.Widths.{inputWidth}
+use Rattle.rows.specs.Pass.{rowFault}
+use Rattle.descent.specs.Calls.{rowsOf}
+use Rattle.rows.specs.Batch.{rowAt, firstFault}
+use Rattle.config.specs.declared.Sizes.{Sizes}
+use Rattle.config.specs.declared.Checked.{Checked}
+use Rattle.config.specs.declared.Checked.the-variants.{Sound}
+use Rattle.network.specs.declared.loss.Sum.the-variants.{Of}
+use Rattle.admission.specs.Rows.{refusalAt}
+use Rattle.network.specs.Loss.{lossTo}
+use Rattle.descent.specs.Accumulate.{passes}
+use Rattle.training.specs.Train.{modelAfter, faultAt}
+use Rattle.demands.specs.Silent.{Places, RowSilent}
+
+-- the checks up to 9 are passed
+abbrev pub Admitted : Checked → Type 0
+Admitted c = (s : Sizes) × (c ≡ Sound s)
+
+-- the coefficients of the set are silent at all that a row reads, if it is read
+module _ (B : Basis) (ws : List ℕ) (D : Places) (ps : List Float) where
+  -- one row, unless 14 or 15 refuse it
+  abbrev pub RowReads : List Float → Type 0
+  RowReads xs = rowFault (inputWidth ws) 14 15 xs ≡ 0 → RowSilent B ws D ps xs
+
+  -- row r of a prediction, unless a row before it is refused
+  abbrev pub PredictReads : List Float → Type 0
+  PredictReads xs =
+      (r : ℕ) → r < rowsOf ws xs → firstFault (refusalAt B ps ws xs) r ≡ 0 → RowReads (rowAt xs (inputWidth ws) r)
+
+  -- row r of a loss, unless 20, 21 or 22 stops a row before it
+  abbrev pub LossReads : List Float → List Float → Type 0
+  LossReads xs ts =
+      (r : ℕ) → r < rowsOf ws xs → (s : Float) → lossTo B ps ws xs ts r ≡ Of s
+      → RowSilent B ws D ps (rowAt xs (inputWidth ws) r)
+
+  -- row r of a training step, unless 20 stops a row before it
+  abbrev pub StepReads : List Float → Type 0
+  StepReads xs =
+      (r : ℕ) → r < rowsOf ws xs → allTo (passes B ps ws xs) r ≡ true
+      → RowSilent B ws D ps (rowAt xs (inputWidth ws) r)
+
+-- every step, on the model before it, unless 20 or 23 refuses a step before it
+abbrev pub TrainReads : Basis → List ℕ → Places → List Float → List Float → List Float → Float → ℕ → Type 0
+TrainReads B ws D ps xs ts rate steps =
+    (s : ℕ) → s < steps → firstFault (faultAt B ps ws xs ts rate) s ≡ 0 → StepReads B ws D (modelAfter B ps ws xs ts rate s) xs

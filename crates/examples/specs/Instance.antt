@@ -1,0 +1,31 @@
+-- Demand 3 is about something: two models that do differ, and a step of training that meets its premise. The settled model, and the same
+-- but for its outer two coefficients, which are silent at 0. Definitions only.
+use mathlib.Core.Path.{_≡_}
+use mathlib.Core.Bool.{false, _||_}
+use mathlib.Core.List.{List, [], _∷_}
+use lib.Dec.{eqb}
+use lib.Ieee.{Float, eq}
+use Rattle.floats.specs.Binary32.{zero32, minusZero32, one32}
+use Rattle.floats.specs.Sums.{at}
+use Rattle.layers.specs.Basis.{basisOf}
+use Rattle.training.specs.Train.{trainFault, trainModel}
+use Rattle.demands.specs.Silent.{Places, Differ}
+use Rattle.demands.specs.Readings.{TrainReads}
+use Rattle.examples.specs.Starred.{bits, unitGrid, oneToOne, weighted, fiveZeros}
+
+-- the first and the last coefficient
+abbrev pub outer : Places
+outer p = eqb p 2 || eqb p 6
+
+-- -7.5 and -0.0 in their places
+abbrev pub changed : List Float
+changed = weighted (bits 0xc0f0_0000 ∷ zero32 ∷ zero32 ∷ zero32 ∷ minusZero32 ∷ [])
+
+pub record Instance : Type 0 where
+  pub apart : eq (at (weighted fiveZeros) 2) (at changed 2) ≡ false
+  pub differ : Differ 7 outer (weighted fiveZeros) changed
+  pub reads : TrainReads (basisOf (unitGrid 2)) oneToOne outer (weighted fiveZeros) (zero32 ∷ []) (one32 ∷ []) (bits 0x3f00_0000) 1
+  -- the step is taken, and leaves -7.5 and -0.0
+  pub taken : trainFault (basisOf (unitGrid 2)) changed oneToOne (zero32 ∷ []) (one32 ∷ []) (bits 0x3f00_0000) 1 ≡ 0
+  pub left : trainModel (basisOf (unitGrid 2)) changed oneToOne (zero32 ∷ []) (one32 ∷ []) (bits 0x3f00_0000) 1
+      ≡ weighted (bits 0xc0f0_0000 ∷ bits 0x3e2a_aaab ∷ bits 0x3f2a_aaab ∷ bits 0x3e2a_aaab ∷ minusZero32 ∷ [])

@@ -2,7 +2,7 @@
 # Builds the oracle and runs one of its programs:
 #   oracle/run.sh self-test | lists
 #   oracle/run.sh leaves [--every N] [--offset M] [--basis N]
-#   oracle/run.sh calls [--rounds N] [--seed S] [--large]
+#   oracle/run.sh calls | training | images | visits [--rounds N] [--seed S] [--large] [--round R]
 #   oracle/run.sh bench .. (bench/run.sh makes what it needs)
 # KAN_RUST: folder of the ported Rust; ESTIMATOR_LIB: folder of the proved code's archives.
 # Status 3: something that is needed is not here and can't be installed.
@@ -49,11 +49,21 @@ need_archive() {
     [ -f "$archives/lib$1.a" ] || stop "no $archives/lib$1.a: \`rt staticlib $1\` makes it"
 }
 
+# The linker would say the same at length.
+need_call() {
+    need_archive estimator
+    nm "$archives/libestimator.a" | grep " T $1\$" >/dev/null || stop "$archives/libestimator.a has no $1" 1
+}
+
 case $program in
     self-test | lists) ;;
     leaves) need_archive leaves ;;
-    calls | bench) need_archive estimator ;;
-    *) stop "name a program: self-test, lists, leaves, calls or bench" 2 ;;
+    calls) need_call kan_loss ;;
+    training) need_call kan_train ;;
+    images) need_call kan_image_read ;;
+    visits) need_call kan_visits ;;
+    bench) need_call kan_train ;;
+    *) stop "name a program: self-test, lists, leaves, calls, training, images, visits or bench" 2 ;;
 esac
 shift
 

@@ -1,12 +1,17 @@
 //! Drawn calls: sound ones, and ones with faults of every kind, several at a time, so that the checks' order shows.
 
+mod images;
+mod training;
+mod visits;
+
 use crate::bits::beside;
-use crate::calls::{Call, Kind};
+use crate::calls::{Call, Kind, FIRST_KINDS};
 use crate::draws::Draws;
 use crate::grids::{accepted_families, drawn_grid};
 use crate::inputs::{drawn_input, exponential_inputs};
 use crate::lent::{Cell, Lent};
 use crate::ported::Grid;
+use crate::program::{Compare, Round};
 use crate::reading::{self, Configuration, STUCK_INTERVALS};
 
 const MOST_PARAMETERS: usize = 250_000;
@@ -31,13 +36,29 @@ impl Maker {
         }
     }
 
-    /// The call of this kind that belongs to the seed and the round, whatever was drawn before.
-    pub fn call(&mut self, kind: Kind, seed: u64, round: u64) -> Call {
-        let mut mixed = Draws::new(seed);
-        let seed = mixed.word() ^ Draws::new(4 * round + kind as u64).word();
+    /// One drawn call of each kind of the program `calls`.
+    pub fn first_kinds(&mut self, round: Round, compare: Compare<Call>) {
+        for kind in FIRST_KINDS {
+            compare(&self.call(kind, round));
+        }
+    }
+
+    /// Draws from here on belong to the seed, the round and the part of it.
+    fn begin(&mut self, round: Round, part: u64) {
+        let Round { seed, number } = round;
+        let seed = Draws::new(seed).word() ^ Draws::new(4 * number + part).word();
         self.draws = Draws::new(seed);
+    }
+
+    /// The call of this kind that belongs to the round.
+    fn call(&mut self, kind: Kind, round: Round) -> Call {
+        self.begin(round, kind as u64);
         let sound = self.sound();
-        let config = self.configuration(kind, &sound);
+        let faulty = match kind {
+            Kind::Check => !self.once_in(4),
+            _ => self.once_in(6),
+        };
+        let config = self.configuration(&sound, faulty);
         let mut call = Call::new(kind, &config.widths, config.grid);
         if config.widths.is_empty() {
             call.widths = self.lend(&[]);
@@ -47,6 +68,8 @@ impl Maker {
             Kind::Initialise => self.initialise(&mut call, &sound),
             Kind::Predict => self.predict(&mut call, &sound),
             Kind::Loss => self.loss(&mut call, &sound),
+            Kind::TrainStep | Kind::Train => self.train(&mut call, &sound),
+            Kind::Visits => self.visits(&mut call, &sound),
         }
         call
     }
@@ -109,6 +132,10 @@ impl Maker {
 
     fn loss(&mut self, call: &mut Call, sound: &Configuration) {
         self.model_and_work(call, sound);
+        self.batch(call, sound);
+    }
+
+    fn batch(&mut self, call: &mut Call, sound: &Configuration) {
         let inputs = self.inputs(sound);
         let width = sound.input_width();
         let rows = inputs.len() / width + usize::from(inputs.len() % width != 0);
@@ -117,14 +144,18 @@ impl Maker {
         call.targets = self.lend(&targets);
     }
 
-    fn model_and_work(&mut self, call: &mut Call, sound: &Configuration) {
+    fn model(&mut self, sound: &Configuration) -> Lent<f32> {
         let length = self.model_length(sound);
         let mut model = self.parameters(sound);
         model.resize(length, 0.25);
         if self.once_in(14) {
             self.spoil(&mut model);
         }
-        call.model = self.lend(&model);
+        self.lend(&model)
+    }
+
+    fn model_and_work(&mut self, call: &mut Call, sound: &Configuration) {
+        call.model = self.model(sound);
         let (first, second) = self.work_lengths(sound.widest());
         call.first = self.lend_filled(first);
         call.second = self.lend_filled(second);
@@ -193,15 +224,19 @@ impl Maker {
     fn inputs(&mut self, sound: &Configuration) -> Vec<f32> {
         let width = sound.input_width();
         let rows = self.row_count();
-        let knots = sound.grid.knots();
-        let mut inputs: Vec<f32> = (0..rows * width)
-            .map(|_| self.input(&sound.grid, &knots))
-            .collect();
+        let mut inputs = self.finite_inputs(sound, rows);
         self.shorten(&mut inputs, width);
         if self.once_in(10) {
             self.spoil(&mut inputs);
         }
         inputs
+    }
+
+    fn finite_inputs(&mut self, sound: &Configuration, rows: usize) -> Vec<f32> {
+        let knots = sound.grid.knots();
+        (0..rows * sound.input_width())
+            .map(|_| self.input(&sound.grid, &knots))
+            .collect()
     }
 
     fn input(&mut self, grid: &Grid, knots: &[f32]) -> f32 {
@@ -226,9 +261,18 @@ impl Maker {
             3 => 0,
             _ => rows,
         };
+        let mut targets = self.finite_targets(rows * width);
+        self.shorten(&mut targets, width);
+        if self.once_in(10) {
+            self.spoil(&mut targets);
+        }
+        targets
+    }
+
+    fn finite_targets(&mut self, count: usize) -> Vec<f32> {
         let kind = self.draws.whole(1, 8);
         let draws = &mut self.draws;
-        let mut targets: Vec<f32> = (0..rows * width)
+        (0..count)
             .map(|_| match kind {
                 // The square of the largest here is near the largest f32 number.
                 1 => draws.between(-1.85e19, 1.85e19),
@@ -236,12 +280,7 @@ impl Maker {
                 3 => draws.sign() * 0.0,
                 _ => draws.between(-10.0, 10.0),
             })
-            .collect();
-        self.shorten(&mut targets, width);
-        if self.once_in(10) {
-            self.spoil(&mut targets);
-        }
-        targets
+            .collect()
     }
 
     fn row_count(&mut self) -> usize {
@@ -315,13 +354,8 @@ impl Maker {
     }
 
     /// The sound configuration, or one made from it by one fault or two.
-    fn configuration(&mut self, kind: Kind, sound: &Configuration) -> Configuration {
+    fn configuration(&mut self, sound: &Configuration, faulty: bool) -> Configuration {
         let mut config = sound.clone();
-        let faulty = if kind == Kind::Check {
-            !self.once_in(4)
-        } else {
-            self.once_in(6)
-        };
         if faulty {
             self.disturb(&mut config);
             if self.once_in(2) {

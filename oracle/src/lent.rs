@@ -2,7 +2,7 @@
 
 use std::ptr;
 
-/// An odd number, so that lent floats lie at no rounder address than they must.
+/// An odd number, so that what is lent lies at no rounder address than it must.
 const GUARDS: usize = 5;
 
 /// What a lent cell can hold.
@@ -21,6 +21,14 @@ impl Cell for f32 {
     }
 }
 
+impl Cell for u8 {
+    const GUARD: u8 = 0xa5;
+
+    fn bits(self) -> u64 {
+        u64::from(self)
+    }
+}
+
 impl Cell for usize {
     const GUARD: usize = 0x5ca1_ab1e_0ddb_a115;
 
@@ -32,15 +40,27 @@ impl Cell for usize {
 #[derive(Clone)]
 pub struct Lent<T> {
     cells: Vec<T>,
+    /// Guards before the contents.
+    front: usize,
     null: bool,
 }
 
 impl<T: Cell> Lent<T> {
     pub fn new(contents: &[T]) -> Self {
-        let mut cells = vec![T::GUARD; GUARDS];
+        Lent::behind(GUARDS, contents)
+    }
+
+    /// Behind so many guards, which decide how bytes lie to the words of memory.
+    pub fn behind(front: usize, contents: &[T]) -> Self {
+        let mut cells = Vec::with_capacity(front + contents.len() + GUARDS);
+        cells.resize(front, T::GUARD);
         cells.extend(contents);
         cells.extend([T::GUARD; GUARDS]);
-        Lent { cells, null: false }
+        Lent {
+            cells,
+            front,
+            null: false,
+        }
     }
 
     /// Nothing, lent as the null pointer.
@@ -57,7 +77,7 @@ impl<T: Cell> Lent<T> {
     }
 
     pub fn len(&self) -> usize {
-        self.cells.len() - 2 * GUARDS
+        self.cells.len() - self.front - GUARDS
     }
 
     pub fn is_empty(&self) -> bool {
@@ -69,12 +89,12 @@ impl<T: Cell> Lent<T> {
     }
 
     pub fn contents(&self) -> &[T] {
-        &self.cells[GUARDS..GUARDS + self.len()]
+        &self.cells[self.front..self.front + self.len()]
     }
 
     pub fn contents_mut(&mut self) -> &mut [T] {
-        let end = GUARDS + self.len();
-        &mut self.cells[GUARDS..end]
+        let end = self.front + self.len();
+        &mut self.cells[self.front..end]
     }
 
     pub fn pointer(&self) -> *const T {
@@ -90,7 +110,7 @@ impl<T: Cell> Lent<T> {
             ptr::null_mut()
         } else {
             // From all cells, so that a write to a guard is seen and not lost.
-            self.cells[GUARDS..].as_mut_ptr()
+            self.cells[self.front..].as_mut_ptr()
         }
     }
 
@@ -99,6 +119,6 @@ impl<T: Cell> Lent<T> {
         let pairs = self.cells.iter().zip(&other.cells);
         let bits = pairs.map(|(a, b)| (a.bits(), b.bits()));
         let (place, (a, b)) = bits.enumerate().find(|(_, (a, b))| a != b)?;
-        Some((place as isize - GUARDS as isize, a, b))
+        Some((place as isize - self.front as isize, a, b))
     }
 }

@@ -2,6 +2,10 @@
 //! all lent memory. What the ported Rust knows comes from it: answers, parameters and its own refusals. The rules of
 //! lengths and of memory, which it does not know, stand here in the document's words.
 
+pub mod images;
+pub mod training;
+pub mod visits;
+
 use crate::models;
 use crate::network::kan::{Kan, KanConfig, KanError};
 use crate::ported::Grid;
@@ -22,13 +26,14 @@ pub struct Configuration {
     pub grid: Grid,
 }
 
-/// The two work slices of prediction and loss.
+/// The two work slices of prediction, loss and the visit map.
 pub struct Work<'a> {
     pub first: &'a mut [f32],
     pub second: &'a mut [f32],
 }
 
-/// The parts of a batch for the loss.
+/// The parts of a batch for the loss and for training.
+#[derive(Clone, Copy)]
 pub struct Batch<'a> {
     pub inputs: &'a [f32],
     pub targets: &'a [f32],
@@ -36,6 +41,14 @@ pub struct Batch<'a> {
 
 fn refuse<T>(number: u32) -> Result<T, Refusal> {
     Err(Refusal { number, carried: 0 })
+}
+
+/// An answer as it is told: 0 or the number, and what is carried, 0 for nothing.
+pub fn told(answer: Result<(), Refusal>) -> (u32, usize) {
+    match answer {
+        Ok(()) => (0, 0),
+        Err(Refusal { number, carried }) => (number, carried),
+    }
 }
 
 /// The paper's number for each of the Rust's errors that these calls can meet.
@@ -62,9 +75,11 @@ fn refusal(error: KanError) -> Refusal {
         KanError::NonFiniteInput => 15,
         KanError::TargetWidthMismatch { .. } => 16,
         KanError::NonFiniteTarget => 17,
+        KanError::InvalidLearningRate => 19,
         KanError::NumericalFailure("forward propagation") => 20,
         KanError::NumericalFailure("MSE calculation") => 21,
         KanError::NumericalFailure("MSE accumulation") => 22,
+        KanError::NumericalFailure("parameter update") => 23,
         other => panic!("an error that no call meets: {other}"),
     };
     Refusal { number, carried: 0 }
@@ -96,6 +111,11 @@ impl Configuration {
     /// "W, the largest width."
     pub fn widest(&self) -> usize {
         self.widths.iter().copied().max().unwrap_or(0)
+    }
+
+    /// "N the sum of widths"; for an accepted configuration.
+    pub fn nodes(&self) -> usize {
+        self.widths.iter().sum()
     }
 
     pub fn input_width(&self) -> usize {
@@ -221,11 +241,18 @@ fn loss_of(config: &Configuration, model: &[f32], batch: Batch) -> Result<f32, R
     }
     let inputs = rows(batch.inputs, config.input_width());
     let targets = rows(batch.targets, config.output_width());
-    let mut network = models::network(&config.widths, &config.grid, model);
+    let network = models::network(&config.widths, &config.grid, model);
     if batch.targets.len() > MOST_TARGETS {
-        // The Rust has no 18. Training of no steps makes the checks that come before it, and nothing else.
-        let checks = network.train(&inputs, &targets, 0, 1.0);
-        return checks.map_err(refusal).and_then(|()| refuse(18));
+        return Err(too_many_targets(network, &inputs, &targets));
     }
     network.mse_loss(&inputs, &targets).map_err(refusal)
+}
+
+/// The Rust has no 18. Training of no steps makes the checks that come before it, and nothing else.
+fn too_many_targets(mut network: Kan, inputs: &[Vec<f32>], targets: &[Vec<f32>]) -> Refusal {
+    let checks = network.train(inputs, targets, 0, 1.0);
+    checks.map_or_else(refusal, |()| Refusal {
+        number: 18,
+        carried: 0,
+    })
 }

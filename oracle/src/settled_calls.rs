@@ -1,7 +1,12 @@
 //! Chosen calls with the answers that are settled for them: number, what is carried, and the numbers written.
 
-use crate::calls::{Call, Kind};
+pub mod images;
+pub mod training;
+pub mod visits;
+
+use crate::calls::{bits, Call, Kind};
 use crate::lent::Lent;
+use crate::outcomes::Compared;
 use crate::ported::Grid;
 use crate::reading::{self, Configuration, MOST_TARGETS};
 
@@ -10,39 +15,27 @@ const OLD_WORK: f32 = 9.0;
 const OLD_OUTPUT: f32 = 5.0;
 const NAN: f32 = f32::NAN;
 
-pub struct Settled {
-    pub call: Call,
+pub struct Settled<C> {
+    pub call: C,
     pub number: u32,
     pub carried: usize,
-    /// The bits of what is written (model, outputs or loss, or P itself), where the answer is settled by numbers.
+    /// The bits of what is written, where the answer is settled by numbers.
     pub written: Option<Vec<u64>>,
 }
 
-impl Settled {
+impl<C: Compared> Settled<C> {
     /// What the reading has for this call beside what is settled; nothing where they agree.
-    pub fn fault(&self, read: &Call) -> Option<String> {
-        let written: Vec<u64> = match read.kind {
-            Kind::Check => vec![read.parameters.contents()[0] as u64],
-            Kind::Initialise => bits(&read.model),
-            Kind::Predict => bits(&read.outputs),
-            Kind::Loss => bits(&read.loss),
-        };
-        let carried = read.carried.contents()[0];
-        let agrees = (self.number, self.carried) == (read.number, carried)
-            && self.written.as_ref().map_or(true, |own| *own == written);
+    pub fn fault(&self, read: &C) -> Option<String> {
+        let (own, written) = ((self.number, self.carried), read.written());
+        let agrees = own == read.answer() && self.written.as_ref().map_or(true, |w| *w == written);
         (!agrees).then(|| {
-            let (number, own) = (read.number, (self.number, self.carried));
+            let answer = read.answer();
             format!(
-                "settled {own:?} {:x?}, reading ({number}, {carried}) {written:x?}",
+                "settled {own:?} {:x?}, reading {answer:?} {written:x?}",
                 self.written
             )
         })
     }
-}
-
-fn bits(lent: &Lent<f32>) -> Vec<u64> {
-    let numbers = lent.contents().iter();
-    numbers.map(|x| u64::from(x.to_bits())).collect()
 }
 
 /// A network and its parameters.
@@ -106,6 +99,27 @@ fn fan(outputs: usize) -> Model {
     Model { config, parameters }
 }
 
+/// One edge a layer, g 2, with these parameters.
+fn chain(domain: (f32, f32), edges: &[[f32; 7]]) -> Model {
+    let widths = vec![1; edges.len() + 1];
+    Model {
+        config: Configuration::new(&widths, Grid::new(2, domain.0, domain.1)),
+        parameters: edges.concat(),
+    }
+}
+
+/// Most intervals, the widest and the deepest: 250,000 parameters or hardly fewer.
+fn largest_models() -> [Model; 4] {
+    let deep = vec![1; 41_667];
+    let shapes: [(&[usize], usize); 4] = [
+        (&[1, 1], 249_995),
+        (&[41_666, 1], 1),
+        (&[1, 41_666], 1),
+        (&deep, 1),
+    ];
+    shapes.map(|(widths, intervals)| initial(widths, Grid::new(intervals, -1.0, 1.0), 5))
+}
+
 /// The network that belongs to a seed.
 fn initial(widths: &[usize], grid: Grid, seed: u64) -> Model {
     let config = Configuration::new(widths, grid);
@@ -138,7 +152,7 @@ impl Model {
     }
 }
 
-fn settled(call: Call, number: u32, carried: usize) -> Settled {
+fn settled<C>(call: C, number: u32, carried: usize) -> Settled<C> {
     Settled {
         call,
         number,
@@ -147,16 +161,32 @@ fn settled(call: Call, number: u32, carried: usize) -> Settled {
     }
 }
 
-fn writes(call: Call, number: u32, carried: usize, written: &[u64]) -> Settled {
+fn writes<C>(call: C, number: u32, carried: usize, written: &[u64]) -> Settled<C> {
     Settled {
         written: Some(written.to_vec()),
         ..settled(call, number, carried)
     }
 }
 
-/// All chosen calls, made group by group, as some take much memory; the large ones too where they are asked for.
-pub fn settled_calls(large: bool) -> impl Iterator<Item = Settled> {
-    let usual: [fn() -> Vec<Settled>; 7] = [
+/// The chosen calls of a program.
+pub type Chosen<C> = Box<dyn Iterator<Item = Settled<C>>>;
+
+/// Some of the chosen calls. They are made group by group, as some take much memory.
+type Group<C> = fn() -> Vec<Settled<C>>;
+
+/// The calls of all groups, the large ones too where they are asked for.
+fn grouped<C: 'static>(
+    usual: &'static [Group<C>],
+    long: &'static [Group<C>],
+    large: bool,
+) -> Chosen<C> {
+    let asked = if large { long } else { &[] };
+    Box::new(usual.iter().chain(asked).flat_map(|group| group()))
+}
+
+/// All chosen calls of the program `calls`.
+pub fn settled_calls(large: bool) -> Chosen<Call> {
+    const USUAL: &[Group<Call>] = &[
         checks,
         domain_checks,
         initialisations,
@@ -165,25 +195,27 @@ pub fn settled_calls(large: bool) -> impl Iterator<Item = Settled> {
         largest_networks,
         many_targets,
     ];
-    let long: [fn() -> Vec<Settled>; 2] = [most_rows, most_targets];
-    let asked = if large { &long[..] } else { &[] };
-    let groups: Vec<_> = usual.iter().chain(asked).copied().collect();
-    groups.into_iter().flat_map(|group| group())
+    grouped(USUAL, &[most_rows, most_targets], large)
 }
 
 fn check(widths: &[usize], intervals: usize, (lo, hi): (f32, f32)) -> Call {
     Call::new(Kind::Check, widths, Grid::new(intervals, lo, hi))
 }
 
-fn refused(widths: &[usize], intervals: usize, domain: (f32, f32), number: u32) -> Settled {
+fn refused(widths: &[usize], intervals: usize, domain: (f32, f32), number: u32) -> Settled<Call> {
     settled(check(widths, intervals, domain), number, 0)
 }
 
-fn counted(widths: &[usize], intervals: usize, domain: (f32, f32), parameters: u64) -> Settled {
+fn counted(
+    widths: &[usize],
+    intervals: usize,
+    domain: (f32, f32),
+    parameters: u64,
+) -> Settled<Call> {
     writes(check(widths, intervals, domain), 0, 0, &[parameters])
 }
 
-fn checks() -> Vec<Settled> {
+fn checks() -> Vec<Settled<Call>> {
     let (usual, point) = ((-1.0, 1.0), (1.0, 1.0));
     let (p31, p32) = (1 << 31, 1 << 32);
     vec![
@@ -211,7 +243,7 @@ fn checks() -> Vec<Settled> {
     ]
 }
 
-fn domain_checks() -> Vec<Settled> {
+fn domain_checks() -> Vec<Settled<Call>> {
     let (tiny, long) = ((0.0, f32::from_bits(1)), (8388608.0, 8388611.0));
     let huge = (-1.7e38, 1.7e38);
     vec![
@@ -235,7 +267,7 @@ fn initialise(widths: &[usize], intervals: usize, seed: u64, length: usize) -> C
     call
 }
 
-fn initialisations() -> Vec<Settled> {
+fn initialisations() -> Vec<Settled<Call>> {
     let of_0 = [
         0x3f44_4152,
         0x3f80_0000,
@@ -261,7 +293,7 @@ fn initialisations() -> Vec<Settled> {
     ]
 }
 
-fn predictions() -> Vec<Settled> {
+fn predictions() -> Vec<Settled<Call>> {
     let (s, big, inf, two) = (spline(), base(3e38), infinite(), pair());
     let mut short_work = s.predict(&[0.0], 0);
     short_work.first = Lent::null();
@@ -298,7 +330,7 @@ fn infinite_knots(input: f32) -> Call {
     initial(&[1, 1], grid, 0).predict(&[input], 1)
 }
 
-fn losses() -> Vec<Settled> {
+fn losses() -> Vec<Settled<Call>> {
     let (zero, inf, two) = (base(0.0), infinite(), pair());
     let (steep, less_steep, wide) = (base(1e18), base(1.4e17), fan(2));
     let batch = [0.25, 0.5, -0.5, 1.0, 0.0, 0.75];
@@ -325,20 +357,11 @@ fn losses() -> Vec<Settled> {
     ]
 }
 
-/// Most intervals, the widest and the deepest: 250,000 parameters or hardly fewer.
-fn largest_networks() -> Vec<Settled> {
-    let deep = vec![1; 41_667];
-    let shapes: [(&[usize], usize); 4] = [
-        (&[1, 1], 249_995),
-        (&[41_666, 1], 1),
-        (&[1, 41_666], 1),
-        (&deep, 1),
-    ];
+fn largest_networks() -> Vec<Settled<Call>> {
     let mut calls = Vec::new();
-    for (widths, intervals) in shapes {
-        let model = initial(widths, Grid::new(intervals, -1.0, 1.0), 5);
-        let inputs = vec![0.375; 2 * widths[0]];
-        let out = widths[widths.len() - 1];
+    for model in largest_models() {
+        let inputs = vec![0.375; 2 * model.config.input_width()];
+        let out = model.config.output_width();
         calls.push(settled(model.predict(&inputs, 2 * out), 0, 0));
         calls.push(settled(model.loss(&inputs, &vec![0.5; 2 * out]), 0, 0));
     }
@@ -346,7 +369,7 @@ fn largest_networks() -> Vec<Settled> {
 }
 
 /// One target value too many, in few rows: 2^24 + 1 is 673 × 24,929. The checks before 18 still come first.
-fn many_targets() -> Vec<Settled> {
+fn many_targets() -> Vec<Settled<Call>> {
     let model = fan(673);
     let inputs = vec![0.0; 24_929];
     let mut targets = vec![1.0; MOST_TARGETS + 1];
@@ -359,7 +382,7 @@ fn many_targets() -> Vec<Settled> {
 }
 
 /// One row too many.
-fn most_rows() -> Vec<Settled> {
+fn most_rows() -> Vec<Settled<Call>> {
     let model = base(0.0);
     let inputs = vec![0.0; MOST_TARGETS + 1];
     let mut targets = vec![1.0; MOST_TARGETS + 1];
@@ -369,7 +392,7 @@ fn most_rows() -> Vec<Settled> {
 }
 
 /// As many target values as are accepted, in 2^24 rows and in 2^12. All errors are 1, and so is their mean.
-fn most_targets() -> Vec<Settled> {
+fn most_targets() -> Vec<Settled<Call>> {
     let targets = vec![1.0; MOST_TARGETS];
     let rows = base(0.0).loss(&vec![0.0; MOST_TARGETS], &targets);
     let columns = fan(4096).loss(&[0.0; 4096], &targets);

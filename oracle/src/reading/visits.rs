@@ -1,0 +1,103 @@
+//! The visit map.
+
+use super::{admit, is_finite, refusal, refuse, rows, sweep};
+use super::{Configuration, Refusal, Work};
+use crate::models;
+use crate::network::kan::Kan;
+use crate::ported::Basis;
+
+/// By what a coefficient counts as visited.
+#[derive(Clone, Copy)]
+pub enum Rule {
+    Value,
+    ValueOrSlope,
+}
+
+/// The rule that the estimator follows.
+pub const RULE: Rule = Rule::Value;
+
+/// "A coefficient is 1 when its basis value is not zero at some number its edge reads." -0.0 is zero, NaN is not.
+pub fn is_visited(rule: Rule, basis: &Basis, coefficient: usize) -> bool {
+    let by_value = basis.values[coefficient] != 0.0;
+    let by_slope = basis.slopes[coefficient] != 0.0;
+    match rule {
+        Rule::Value => by_value,
+        Rule::ValueOrSlope => by_value || by_slope,
+    }
+}
+
+/// "Batch checks are those of prediction, the row carried too."
+pub fn map(
+    config: &Configuration,
+    model: &[f32],
+    inputs: &[f32],
+    work: Work,
+    map: &mut [u8],
+) -> Result<(), Refusal> {
+    admit(config, model, &work)?;
+    let answer = map_rows(config, model, inputs, map);
+    sweep(config, work);
+    answer
+}
+
+/// 10 ("P for the map"), 11, then the rows: "all zero after 14, 15 or 20".
+fn map_rows(
+    config: &Configuration,
+    model: &[f32],
+    inputs: &[f32],
+    map: &mut [u8],
+) -> Result<(), Refusal> {
+    if map.len() != config.parameters() {
+        return refuse(10);
+    }
+    if !is_finite(model) {
+        return refuse(11);
+    }
+    map.fill(0);
+    let rows = rows(inputs, config.input_width());
+    let network = models::network(&config.widths, &config.grid, model);
+    for (row, input) in rows.iter().enumerate() {
+        if let Err(error) = network.forward(input) {
+            let Refusal { number, .. } = refusal(error);
+            let carried = row;
+            return Err(Refusal { number, carried });
+        }
+    }
+    let layers = layers(config, model);
+    for input in rows {
+        mark(config, &layers, input, map);
+    }
+    Ok(())
+}
+
+/// Each layer as a network of its own, to answer what the next one reads.
+fn layers(config: &Configuration, model: &[f32]) -> Vec<Kan> {
+    let mut rest = model;
+    let mut layers = Vec::new();
+    for ends in config.widths.windows(2) {
+        let layer = Configuration::new(ends, config.grid);
+        let (own, after) = rest.split_at(layer.parameters());
+        layers.push(models::network(ends, &config.grid, own));
+        rest = after;
+    }
+    layers
+}
+
+/// Marks all that one row visits. "Weights are 1 if there is any row."
+fn mark(config: &Configuration, layers: &[Kan], input: Vec<f32>, map: &mut [u8]) {
+    let per_edge = config.grid.intervals + 5;
+    let mut nodes = input;
+    let mut edges = map.chunks_mut(per_edge);
+    for layer in layers {
+        let bases: Vec<Basis> = nodes.iter().map(|&x| config.grid.basis(x)).collect();
+        nodes = layer.forward(&nodes).expect("an accepted row");
+        for _ in 0..nodes.len() {
+            for (basis, edge) in bases.iter().zip(&mut edges) {
+                edge[..2].fill(1);
+                for (coefficient, byte) in edge[2..].iter_mut().enumerate() {
+                    *byte |= u8::from(is_visited(RULE, basis, coefficient));
+                }
+            }
+        }
+    }
+}

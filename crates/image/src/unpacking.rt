@@ -7,7 +7,8 @@ use config::Refusal;
 
 // Refused as `describe` is; then 10, unless `widths` has K places and `model` P.
 pub fn unpack(image: &[u8], widths: &mut [usize], model: &mut [f32]) -> Outcome
-    ensures { λ r. ⌜ Unpacked (now (image .entry)) (now (widths .entry)) (now (model .entry)) r (now (widths .exit)) (now (model .exit)) ⌝ }
+    ensures { λ r. ⌜ Unpacked (now (image .entry)) (now (widths .entry)) (now (model .entry)) r
+        (now (widths .exit)) (now (model .exit)) ⌝ }
 {
     let described = describe(image);
     match described {

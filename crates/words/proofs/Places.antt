@@ -1,6 +1,7 @@
 -- A word that was written is read again, and words that were read, written again, are the bytes they were. Assumes nothing.
 use Prim.Native.Nat.{ℕ, zero, suc, _+_, _-_, _*_, _/_, _%_, _^_, _≤_, _<_}
-use native.Mathlib.Nat.{div-div-eq-div-mul, div-add-mod', mod-eq-of-lt, add-zero, add-assoc, suc-mul, eq-or-lt-of-le, le-of-suc-le-suc, lt-suc-self, zero-mul}
+use native.Mathlib.Nat.{div-div-eq-div-mul, div-add-mod', mod-eq-of-lt}
+use native.Mathlib.Nat.{add-zero, add-assoc, suc-mul, eq-or-lt-of-le, le-of-suc-le-suc, lt-suc-self, zero-mul}
 use native.Mathlib.Numerals.{add-one}
 use native.Mathlib.Omega.{arith}
 use mathlib.Core.Path.{_≡_, refl, sym, ap, _∙_}

@@ -111,7 +111,8 @@ fn put(bytes: &mut [u8], word: u32)
 
 pub fn put_words(bytes: &mut [u8], words: &[u32])
     requires { ⌜ length (now words) * 4 ≤ length (now bytes) ⌝ }
-    ensures { λ _. ⌜ now (bytes .exit) ≡ packedWords (now (words .entry)) ++ drop (length (now (words .entry)) * 4) (now (bytes .entry)) ⌝ }
+    ensures { λ _. ⌜ now (bytes .exit)
+        ≡ packedWords (now (words .entry)) ++ drop (length (now (words .entry)) * 4) (now (bytes .entry)) ⌝ }
 {
     for i in 0..words.len() {
         let at = i * 4;
@@ -120,8 +121,10 @@ pub fn put_words(bytes: &mut [u8], words: &[u32])
 }
 
 pub fn put_sizes(bytes: &mut [u8], sizes: &[usize])
-    requires { ⌜ (length (now sizes) * 4 ≤ length (now bytes)) × ((i : ℕ) → i < length (now sizes) → getD (now sizes) i 0 < 2 ^ 32) ⌝ }
-    ensures { λ _. ⌜ now (bytes .exit) ≡ packedWords (now (sizes .entry)) ++ drop (length (now (sizes .entry)) * 4) (now (bytes .entry)) ⌝ }
+    requires { ⌜ (length (now sizes) * 4 ≤ length (now bytes))
+        × ((i : ℕ) → i < length (now sizes) → getD (now sizes) i 0 < 2 ^ 32) ⌝ }
+    ensures { λ _. ⌜ now (bytes .exit)
+        ≡ packedWords (now (sizes .entry)) ++ drop (length (now (sizes .entry)) * 4) (now (bytes .entry)) ⌝ }
 {
     for i in 0..sizes.len() {
         let at = i * 4;
@@ -132,7 +135,8 @@ pub fn put_sizes(bytes: &mut [u8], sizes: &[usize])
 // Finite numbers only: a NaN has no bits of its own.
 pub fn put_floats(bytes: &mut [u8], floats: &[f32])
     requires { ⌜ (length (now floats) * 4 ≤ length (now bytes)) × (allFinite (now floats) ≡ true) ⌝ }
-    ensures { λ _. ⌜ now (bytes .exit) ≡ packedFloats (now (floats .entry)) ++ drop (length (now (floats .entry)) * 4) (now (bytes .entry)) ⌝ }
+    ensures { λ _. ⌜ now (bytes .exit)
+        ≡ packedFloats (now (floats .entry)) ++ drop (length (now (floats .entry)) * 4) (now (bytes .entry)) ⌝ }
 {
     for i in 0..floats.len() {
         let at = i * 4;

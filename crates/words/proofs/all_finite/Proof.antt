@@ -41,7 +41,13 @@ is-finite-requires c κs = search needs
 
 returns : tie.Need-returns Inv-loop μ-loop
 unfolding allFinite
-returns c = rw floats-length (sym (all-stop _ (c .before .before .before .before .loop .i) _ (c .before .before .before .loop-test .taken) (sym (seen _ (c .before .before .before .before .loop .i) _ _ _ (c .before .before .before .loop-test .taken) (c .before .before .word .ensures) (c .before .is-finite .ensures)) ∙ not-true _ (c .if1 .taken))))
+returns c =
+    let at-is-finite = c .before in
+    let at-word = at-is-finite .before in
+    let at-loop-test = at-word .before in
+    let at-loop = at-loop-test .before in
+    rw floats-length (sym (all-stop _ (at-loop .loop .i) _ (at-loop-test .loop-test .taken) (sym (seen _ (at-loop .loop .i) _ _ _
+    (at-loop-test .loop-test .taken) (at-word .word .ensures) (at-is-finite .is-finite .ensures)) ∙ not-true _ (c .if1 .taken))))
 
 add-i : tie.Need-add-i Inv-loop μ-loop
 add-i c = omega arith
@@ -50,7 +56,15 @@ loop-less : tie.Need-loop-less Inv-loop μ-loop
 loop-less c = omega arith
 
 loop-again : tie.Need-loop-again Inv-loop μ-loop
-loop-again c = (omega arith, all-more _ (c .before .before .before .before .loop .i) (c .before .before .before .before .loop .inv .1) (sym (seen _ (c .before .before .before .before .loop .i) _ _ _ (c .before .before .before .loop-test .taken) (c .before .before .word .ensures) (c .before .is-finite .ensures)) ∙ not-false _ (c .if1 .left)))
+loop-again c =
+    let at-is-finite = c .before in
+    let at-word = at-is-finite .before in
+    let at-loop-test = at-word .before in
+    let at-loop = at-loop-test .before in (
+      omega arith,
+      all-more _ (at-loop .loop .i) (at-loop .loop .inv .1) (sym (seen _ (at-loop .loop .i) _ _ _ (at-loop-test .loop-test
+          .taken) (at-word .word .ensures) (at-is-finite .is-finite .ensures)) ∙ not-false _ (c .if1 .left)),
+    )
 
 returns-2 : tie.Need-returns-2 Inv-loop μ-loop
 unfolding allFinite

@@ -44,7 +44,11 @@ shared-slice-read-put c = omega arith
 
 float-to-bits-put : tie.Need-float-to-bits-put Inv-loop μ-loop
 unfolding allFinite
-float-to-bits-put c = finite-number _ (all-at _ _ (c .before .before .before .loop .i) (c .before .before .before .before .before .before .pre .1) (c .before .before .loop-test .taken))
+float-to-bits-put c =
+    let at-loop-test = c .before .before in
+    let at-loop = at-loop-test .before in
+    let at-start = at-loop .before .before .before in
+    finite-number _ (all-at _ _ (at-loop .loop .i) (at-start .pre .1) (at-loop-test .loop-test .taken))
 
 put-requires : tie.Need-put-requires Inv-loop μ-loop
 put-requires c κs = rw rest-length (omega arith)
@@ -56,14 +60,26 @@ loop-less : tie.Need-loop-less Inv-loop μ-loop
 loop-less c = omega arith
 
 loop-again : tie.Need-loop-again Inv-loop μ-loop
-loop-again c = (omega arith, c .before .bytes .given .1 ∙ c .before .before .before .before .before .before .loop .inv .1, pack-more _ (c .before .before .before .before .before .before .loop .i) _ _ (c .before .before .before .before .before .before .loop .bytes) _ (c .before .before .before .before .before .before .loop .inv .2) (omega arith) refl (c .before .before .put .ensures))
+loop-again c =
+    let at-bytes = c .before in
+    let at-put = at-bytes .before in
+    let at-loop = at-put .before .before .before .before in (
+      omega arith,
+      at-bytes .bytes .given .1 ∙ at-loop .loop .inv .1,
+      pack-more _ (at-loop .loop .i) _ _ (at-loop .loop .bytes) _ (at-loop
+          .loop .inv .2) (omega arith) refl (at-put .put .ensures),
+    )
 
 same-length : tie.Need-same-length Inv-loop μ-loop
 same-length c = c .before .loop .inv .1
 
 returns : tie.Need-returns Inv-loop μ-loop
 unfolding packedFloats
-returns c = let e : c .before .loop .i ≡ length (c .before .before .before .before .args .floats .now) = omega arith in c .before .loop .inv .2 ∙ rw e
+returns c =
+    let at-loop = c .before in
+    let at-start = c .before .before .before .before in
+    let e : at-loop .loop .i ≡ length (at-start .args .floats .now) = omega arith in
+    at-loop .loop .inv .2 ∙ rw e
 
 pub put-floats-spec : {M : Type 1} → statement M
 put-floats-spec =

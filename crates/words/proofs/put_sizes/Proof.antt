@@ -41,7 +41,10 @@ shared-slice-read-put c = omega arith
 
 cast-put : tie.Need-cast-put Inv-loop μ-loop
 cast-put c =
-    omega (arith, c .before .before .before .before .before .before .pre .1 (c .before .before .before .loop .i) (c .before .before .loop-test .taken))
+    let at-loop-test = c .before .before in
+    let at-loop = at-loop-test .before in
+    let at-start = at-loop .before .before .before in
+    omega (arith, at-start .pre .1 (at-loop .loop .i) (at-loop-test .loop-test .taken))
 
 put-requires : tie.Need-put-requires Inv-loop μ-loop
 put-requires c κs = rw rest-length (omega arith)
@@ -53,14 +56,26 @@ loop-less : tie.Need-loop-less Inv-loop μ-loop
 loop-less c = omega arith
 
 loop-again : tie.Need-loop-again Inv-loop μ-loop
-loop-again c = (omega arith, c .before .bytes .given .1 ∙ c .before .before .before .before .before .before .loop .inv .1, pack-more _ (c .before .before .before .before .before .before .loop .i) _ _ (c .before .before .before .before .before .before .loop .bytes) _ (c .before .before .before .before .before .before .loop .inv .2) (omega arith) refl (c .before .before .put .ensures))
+loop-again c =
+    let at-bytes = c .before in
+    let at-put = at-bytes .before in
+    let at-loop = at-put .before .before .before .before in (
+      omega arith,
+      at-bytes .bytes .given .1 ∙ at-loop .loop .inv .1,
+      pack-more _ (at-loop .loop .i) _ _ (at-loop .loop .bytes) _ (at-loop
+          .loop .inv .2) (omega arith) refl (at-put .put .ensures),
+    )
 
 same-length : tie.Need-same-length Inv-loop μ-loop
 same-length c = c .before .loop .inv .1
 
 returns : tie.Need-returns Inv-loop μ-loop
 unfolding packedWords
-returns c = let e : c .before .loop .i ≡ length (c .before .before .before .before .args .sizes .now) = omega arith in c .before .loop .inv .2 ∙ rw e
+returns c =
+    let at-loop = c .before in
+    let at-start = c .before .before .before .before in
+    let e : at-loop .loop .i ≡ length (at-start .args .sizes .now) = omega arith in
+    at-loop .loop .inv .2 ∙ rw e
 
 pub put-sizes-spec : {M : Type 1} → statement M
 put-sizes-spec =

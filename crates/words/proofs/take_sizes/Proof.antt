@@ -43,7 +43,13 @@ loop-less : tie.Need-loop-less Inv-loop μ-loop
 loop-less c = omega arith
 
 loop-again : tie.Need-loop-again Inv-loop μ-loop
-loop-again c = (omega arith, simp length-set (omega arith), tab-more _ (c .before .before .loop .i) _ _ _ (c .before .before .loop .inv .2) (c .size .ensures .0) (omega arith))
+loop-again c =
+    let at-loop = c .before .before in (
+      omega arith,
+      simp length-set (omega arith),
+      tab-more _ (at-loop .loop .i) _ _ _ (at-loop .loop .inv .2) (c .size .ensures .0) (omega
+          arith),
+    )
 
 same-length : tie.Need-same-length Inv-loop μ-loop
 same-length c = c .before .loop .inv .1

@@ -45,19 +45,22 @@ loop-less : tie.Need-loop-less Inv-loop μ-loop
 loop-less c = omega arith
 
 loop-again : tie.Need-loop-again Inv-loop μ-loop
-loop-again c = (
-  omega arith,
-  c .take .ensures ∙ fold-more _ _ (c .before .before .before .loop .i) (c .before .before .before .loop .shape) _ (c .before .before .before .loop .inv .1)
-      (c .before .size .ensures .0 ∙ sym (word-at _ _ _ (c .before .before .before .loop .i) (c .before .before .loop-test .taken))),
-)
+loop-again c =
+    let at-loop = c .before .before .before in (
+      omega arith,
+      c .take .ensures ∙ fold-more _ _ (at-loop .loop .i) (at-loop .loop .shape) _ (at-loop .loop .inv .1)
+          (c .before .size .ensures .0 ∙ sym (word-at _ _ _ (at-loop .loop .i) (c .before .before .loop-test .taken))),
+    )
 
 verdict-requires : tie.Need-verdict-requires Inv-loop μ-loop
 verdict-requires c κs = search needs
 
 returns : tie.Need-returns Inv-loop μ-loop
 returns c =
-    c .verdict .ensures
-    ∙ verdict-is _ _ _ _ (c .before .before .loop .i) (c .before .before .loop .shape) (c .before .before .before .before .per-edge .ensures) (sym (words-length _ _ _)) (omega arith) (c .before .before .loop .inv .1)
+    let at-loop = c .before .before in
+    let at-per-edge = at-loop .before .before in
+    c .verdict .ensures ∙ verdict-is _ _ _ _ (at-loop .loop .i) (at-loop .loop .shape) (at-per-edge .per-edge .ensures) (sym (words-length
+    _ _ _)) (omega arith) (at-loop .loop .inv .1)
 
 pub check-widths-spec : {M : Type 1} → statement M
 check-widths-spec =

@@ -31,7 +31,12 @@ describe-trailer-requires c κs = search needs
 
 returns-3 : tie.Need-returns-3
 unfolding describeOf unless
-returns-3 c = rw (le-leb _ _ (c .before .before .before .if1 .left), le-leb _ _ (c .before .before .if2 .left)) (c .describe-trailer .ensures ∙ ap (trailerOf _) (c .before .trailer-at .ensures .0))
+returns-3 c =
+    let at-trailer-at = c .before in
+    let at-if2 = at-trailer-at .before in
+    let at-if1 = at-if2 .before in
+    rw (le-leb _ _ (at-if1 .if1 .left), le-leb _ _ (at-if2 .if2 .left)) (c .describe-trailer .ensures ∙ ap (trailerOf _) (at-trailer-at
+    .trailer-at .ensures .0))
 
 pub describe-spec : {M : Type 1} → statement M
 describe-spec =

@@ -40,11 +40,31 @@ refused-requires-3 c κs = search needs
 
 returns-3 : tie.Need-returns-3
 unfolding bodyOf unless
-returns-3 c = rw (eq-eqb _ _ (c .before .before .before .before .before .if1 .left), eq-eqb _ _ (c .before .before .before .if2 .left), sym (c .before .before .all-finite .ensures) ∙ not-true _ (c .before .if3 .taken)) (c .refused3 .ensures)
+returns-3 c =
+    let at-if3 = c .before in
+    let at-all-finite = at-if3 .before in
+    let at-if2 = at-all-finite .before in
+    let at-if1 = at-if2 .before .before in
+    rw (
+      eq-eqb _ _ (at-if1 .if1 .left),
+      eq-eqb _ _ (at-if2 .if2 .left),
+      sym (at-all-finite .all-finite .ensures) ∙ not-true _ (at-if3 .if3
+          .taken),
+    ) (c .refused3 .ensures)
 
 returns-4 : tie.Need-returns-4
 unfolding bodyOf unless
-returns-4 c = rw (eq-eqb _ _ (c .before .before .before .before .before .if1 .left), eq-eqb _ _ (c .before .before .before .if2 .left), sym (c .before .before .all-finite .ensures) ∙ not-false _ (c .before .if3 .left))
+returns-4 c =
+    let at-if3 = c .before in
+    let at-all-finite = at-if3 .before in
+    let at-if2 = at-all-finite .before in
+    let at-if1 = at-if2 .before .before in
+    rw (
+      eq-eqb _ _ (at-if1 .if1 .left),
+      eq-eqb _ _ (at-if2 .if2 .left),
+      sym (at-all-finite .all-finite .ensures) ∙ not-false _ (at-if3
+          .if3 .left),
+    )
 
 pub describe-body-spec : {M : Type 1} → statement M
 describe-body-spec =

@@ -33,14 +33,24 @@ refused-requires-3 c κs = search needs
 
 returns-3 : tie.Need-returns-3
 unfolding trailerOf unless
-returns-3 c = rw (eq-eqb _ _ (c .before .before .before .before .before .before .if1 .left), eq-eqb _ _ (c .before .before .before .before .if2 .left), ne-eqb _ _ (c .before .if3 .taken)) (c .refused3 .ensures)
+returns-3 c =
+    let at-if3 = c .before in
+    let at-if2 = at-if3 .before .before .before in
+    let at-if1 = at-if2 .before .before in
+    rw (eq-eqb _ _ (at-if1 .if1 .left), eq-eqb _ _ (at-if2 .if2 .left), ne-eqb _ _ (at-if3 .if3 .taken)) (c .refused3 .ensures)
 
 refused-requires-4 : tie.Need-refused-requires-4
 refused-requires-4 c κs = search needs
 
 returns-4 : tie.Need-returns-4
 unfolding trailerOf unless
-returns-4 c = rw (eq-eqb _ _ (c .before .before .before .before .before .before .before .before .if1 .left), eq-eqb _ _ (c .before .before .before .before .before .before .if2 .left), eq-eqb _ _ (c .before .before .before .if3 .left), lt-leb _ _ (c .before .if4 .taken)) (c .refused4 .ensures)
+returns-4 c =
+    let at-if4 = c .before in
+    let at-if3 = at-if4 .before .before in
+    let at-if2 = at-if3 .before .before .before in
+    let at-if1 = at-if2 .before .before in
+    rw (eq-eqb _ _ (at-if1 .if1 .left), eq-eqb _ _ (at-if2 .if2 .left), eq-eqb _ _ (at-if3 .if3 .left), lt-leb _ _ (at-if4 .if4 .taken))
+    (c .refused4 .ensures)
 
 sub-check-widths : tie.Need-sub-check-widths
 sub-check-widths c = search needs
@@ -55,13 +65,34 @@ enum-known-checked-2 : tie.Need-enum-known-checked-2
 enum-known-checked-2 c = search needs
 
 describe-body-requires : tie.Need-describe-body-requires
-describe-body-requires c κs = (c .before .before .before .before .before .before .before .before .before .before .before .before .before .before .before .before .pre, sized _ _ _ (sym (c .before .before .before .check-widths .ensures) ∙ c .before .checked2 .given .1) .small)
+describe-body-requires c κs =
+    let at-checked2 = c .before in
+    let at-check-widths = at-checked2 .before .before in
+    let at-if3 = at-check-widths .before .before .before .before .before in
+    let at-start = at-if3 .before .before .before .before .before .before .before .before in
+    (at-start .pre, sized _ _ _ (sym (at-check-widths .check-widths .ensures) ∙ at-checked2 .checked2 .given .1) .small)
 
 returns-5 : tie.Need-returns-5
-returns-5 c = trailer-past _ _ _ (c .before .before .before .before .before .before .before .before .before .before .before .before .before .if1 .left) (c .before .before .before .before .before .before .before .before .before .before .before .if2 .left) (c .before .before .before .before .before .before .before .before .if3 .left) (c .before .before .before .before .before .before .if4 .left) (sym (c .before .checked .given .1) ∙ c .before .before .before .check-widths .ensures)
+returns-5 c =
+    let at-checked = c .before in
+    let at-check-widths = at-checked .before .before in
+    let at-if4 = at-check-widths .before .before .before in
+    let at-if3 = at-if4 .before .before in
+    let at-if2 = at-if3 .before .before .before in
+    let at-if1 = at-if2 .before .before in
+    trailer-past _ _ _ (at-if1 .if1 .left) (at-if2 .if2 .left) (at-if3 .if3 .left) (at-if4 .if4 .left) (sym (at-checked .checked .given
+    .1) ∙ at-check-widths .check-widths .ensures)
 
 returns-6 : tie.Need-returns-6
-returns-6 c = c .describe-body .ensures ∙ trailer-past _ _ _ (c .before .before .before .before .before .before .before .before .before .before .before .before .before .before .if1 .left) (c .before .before .before .before .before .before .before .before .before .before .before .before .if2 .left) (c .before .before .before .before .before .before .before .before .before .if3 .left) (c .before .before .before .before .before .before .before .if4 .left) (sym (c .before .before .checked2 .given .1) ∙ c .before .before .before .before .check-widths .ensures)
+returns-6 c =
+    let at-checked2 = c .before .before in
+    let at-check-widths = at-checked2 .before .before in
+    let at-if4 = at-check-widths .before .before .before in
+    let at-if3 = at-if4 .before .before in
+    let at-if2 = at-if3 .before .before .before in
+    let at-if1 = at-if2 .before .before in
+    c .describe-body .ensures ∙ trailer-past _ _ _ (at-if1 .if1 .left) (at-if2 .if2 .left) (at-if3 .if3 .left) (at-if4 .if4 .left) (sym
+    (at-checked2 .checked2 .given .1) ∙ at-check-widths .check-widths .ensures)
 
 pub describe-trailer-spec : {M : Type 1} → statement M
 describe-trailer-spec =

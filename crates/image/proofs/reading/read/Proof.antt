@@ -26,7 +26,10 @@ enum-known-described-2 : tie.Need-enum-known-described-2
 enum-known-described-2 c = search needs
 
 mul-end : tie.Need-mul-end
-mul-end c = omega (arith, room _ _ (sym (c .before .before .before .before .describe .ensures) ∙ c .before .before .described2 .given .1) .0)
+mul-end c =
+    let at-described2 = c .before .before in
+    let at-describe = at-described2 .before .before in
+    omega (arith, room _ _ (sym (at-describe .describe .ensures) ∙ at-described2 .described2 .given .1) .0)
 
 sub-result-2 : tie.Need-sub-result-2
 sub-result-2 c = search needs
@@ -35,13 +38,19 @@ part-result-start-2 : tie.Need-part-result-start-2
 part-result-start-2 c = search needs
 
 part-result-end-2 : tie.Need-part-result-end-2
-part-result-end-2 c = omega (arith, room _ _ (sym (c .before .before .before .before .describe .ensures) ∙ c .before .before .described2 .given .1) .1)
+part-result-end-2 c =
+    let at-described2 = c .before .before in
+    let at-describe = at-described2 .before .before in
+    omega (arith, room _ _ (sym (at-describe .describe .ensures) ∙ at-described2 .described2 .given .1) .1)
 
 returns : tie.Need-returns
 returns c = read-refused _ _ _ (sym (c .before .before .before .before .describe .ensures) ∙ c .before .before .described .given .1)
 
 returns-2 : tie.Need-returns-2
-returns-2 c = read-accepted _ _ _ (sym (c .before .before .before .before .before .describe .ensures) ∙ c .before .before .before .described2 .given .1)
+returns-2 c =
+    let at-described2 = c .before .before .before in
+    let at-describe = at-described2 .before .before in
+    read-accepted _ _ _ (sym (at-describe .describe .ensures) ∙ at-described2 .described2 .given .1)
 
 pub read-spec : {M : Type 1} → statement M
 read-spec =

@@ -50,7 +50,14 @@ same-length : tie.Need-same-length
 same-length c = search needs
 
 returns : tie.Need-returns
-returns c = placed _ _ _ _ _ _ _ _ (c .before .before .before .before .before .before .before .before .before .before .before .before .before .before .before .before .before .pre) (c .before .before .before .before .before .trailer .ensures) (c .before .before .before .before .before .before .before .before .before .before .before .before .put-floats .ensures) (c .before .before .before .before .before .before .before .before .put-sizes .ensures) (c .before .before .put-words .ensures)
+returns c =
+    let at-put-words = c .before .before in
+    let at-trailer = at-put-words .before .before .before in
+    let at-put-sizes = at-trailer .before .before .before in
+    let at-put-floats = at-put-sizes .before .before .before .before in
+    let at-start = at-put-floats .before .before .before .before .before in
+    placed _ _ _ _ _ _ _ _ (at-start .pre) (at-trailer .trailer .ensures) (at-put-floats .put-floats .ensures) (at-put-sizes .put-sizes
+    .ensures) (at-put-words .put-words .ensures)
 
 pub put-image-spec : {M : Type 1} → statement M
 put-image-spec =

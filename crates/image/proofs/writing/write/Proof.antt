@@ -24,7 +24,12 @@ same-length : tie.Need-same-length
 same-length c = search needs
 
 returns-2 : tie.Need-returns-2
-returns-2 c = write-past _ _ _ _ _ _ _ (sym (c .before .before .before .before .before .before .admit .ensures) ∙ c .before .before .before .before .enum-told .given .1) (c .before .before .write-admitted .ensures)
+returns-2 c =
+    let at-write-admitted = c .before .before in
+    let at-enum-told = at-write-admitted .before .before in
+    let at-admit = at-enum-told .before .before in
+    write-past _ _ _ _ _ _ _ (sym (at-admit .admit .ensures) ∙ at-enum-told .enum-told .given .1) (at-write-admitted .write-admitted
+    .ensures)
 
 pub write-spec : {M : Type 1} → statement M
 write-spec =

@@ -31,18 +31,34 @@ refused-requires-2 : tie.Need-refused-requires-2
 refused-requires-2 c κs = search needs
 
 returns-2 : tie.Need-returns-2
-returns-2 c = rw (c .refused2 .ensures) (past-eleven _ _ _ _ (c .before .before .before .if1 .left) (sym (c .before .before .all-finite .ensures) ∙ not-true _ (c .before .if2 .taken)))
+returns-2 c =
+    let at-if2 = c .before in
+    let at-all-finite = at-if2 .before in
+    let at-if1 = at-all-finite .before in
+    rw (c .refused2 .ensures) (past-eleven _ _ _ _ (at-if1 .if1 .left) (sym (at-all-finite .all-finite .ensures) ∙ not-true _ (at-if2 .if2
+    .taken)))
 
 put-image-requires : tie.Need-put-image-requires
 put-image-requires c κs =
-    record { words = c .before .before .before .before .before .before .before .pre; room = c .before .before .before .if1 .left; sound = sym (c .before .before .all-finite .ensures) ∙ not-false _ (c .before .if2 .left) }
+    let at-if2 = c .before in
+    let at-all-finite = at-if2 .before in
+    let at-if1 = at-all-finite .before in
+    let at-start = at-if1 .before .before .before .before in
+    let sound = sym (at-all-finite .all-finite .ensures) ∙ not-false _ (at-if2 .if2 .left) in
+    record { words = at-start .pre; room = at-if1 .if1 .left; sound = sound }
 
 same-length : tie.Need-same-length
 same-length c = search needs
 
 returns-3 : tie.Need-returns-3
-returns-3 c = past-written _ _ _ _ _
-    (record { words = c .before .before .before .before .before .before .before .before .before .before .pre; room = c .before .before .before .before .before .before .if1 .left; sound = sym (c .before .before .before .before .before .all-finite .ensures) ∙ not-false _ (c .before .before .before .before .if2 .left) }) (c .before .before .put-image .ensures)
+returns-3 c =
+    let at-if2 = c .before .before .before .before in
+    let at-all-finite = at-if2 .before in
+    let at-if1 = at-all-finite .before in
+    let at-start = at-if1 .before .before .before .before in
+    let sound = sym (at-all-finite .all-finite .ensures) ∙ not-false _ (at-if2 .if2 .left) in
+    past-written _ _ _ _ _ (record { words = at-start .pre; room = at-if1 .if1 .left; sound = sound })
+    (c .before .before .put-image .ensures)
 
 pub write-admitted-spec : {M : Type 1} → statement M
 write-admitted-spec =

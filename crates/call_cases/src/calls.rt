@@ -1,30 +1,14 @@
 // One function a call: whether it answers and leaves what the case says. Before a call each work slice is filled with 9.0, the
 // outputs with 5.0 and a model to be drawn with 9.0, so that what stays unchanged is seen too. A length has the name of its
 // letter in the case.
-use crate::cursor::Cursor;
-use crate::read::floats_here;
-use crate::read::length_here;
-use crate::read::setup_here;
+use case_reading::Cursor;
+use case_reading::floats_here;
+use case_reading::length_here;
+use case_reading::setup_here;
 use config::Checked;
 use config::Counted;
-use config::Outcome;
-use config::Refusal;
 use network::Loss;
 use spline::Grid;
-
-fn accepted() -> Refusal {
-    Refusal {
-        number: 0,
-        carried: 0,
-    }
-}
-
-fn refusal_of(outcome: Outcome) -> Refusal {
-    match outcome {
-        Outcome::Done => accepted(),
-        Outcome::Refused(refusal) => refusal,
-    }
-}
 
 // K widths.. g lo hi number carried P, where P is 0 on refusal
 pub fn check_agrees(words: &[u64]) -> bool {
@@ -34,7 +18,7 @@ pub fn check_agrees(words: &[u64]) -> bool {
     let at = setup.next;
     match config::check(&widths[..k], setup.grid) {
         Checked::Sound(sizes) => {
-            let met = at.meet_refusal(words, accepted());
+            let met = at.meet_accepted(words);
             met.meet(words, sizes.parameters as u64).is_end(words)
         }
         Checked::Refused(refusal) => {
@@ -74,7 +58,7 @@ fn initialise_meets(
     model: &mut [f32],
 ) -> bool {
     let outcome = network::initialise(widths, grid, seed, model);
-    let answered = at.meet_refusal(words, refusal_of(outcome));
+    let answered = at.meet_outcome(words, outcome);
     answered.meet_floats(words, model).is_end(words)
 }
 
@@ -143,7 +127,7 @@ fn predict_meets(
     outputs: &mut [f32],
 ) -> bool {
     let outcome = network::predict_batch(widths, grid, model, inputs, first, second, outputs);
-    let answered = at.meet_refusal(words, refusal_of(outcome));
+    let answered = at.meet_outcome(words, outcome);
     let worked = answered
         .meet_floats(words, first)
         .meet_floats(words, second);
@@ -178,7 +162,7 @@ pub fn drawn_predict_agrees(words: &[u64]) -> bool {
     )
 }
 
-// The seed stands at `seed`, and A at `at`.
+// The seed stands at `seed`, and A at `at`. The model has the length that the configuration asks, so that it is drawn.
 fn drawn_predict_lent(
     words: &[u64],
     seed: Cursor,
@@ -188,10 +172,7 @@ fn drawn_predict_lent(
     model: &mut [f32],
     inputs: &[f32],
 ) -> bool {
-    let drawn = refusal_of(network::initialise(widths, grid, seed.word(words), model));
-    if drawn.number != 0 {
-        return false;
-    }
+    network::initialise(widths, grid, seed.word(words), model);
     predict_lent(words, at, widths, grid, model, inputs)
 }
 
@@ -272,7 +253,7 @@ fn loss_meets(
 fn meet_loss(words: &[u64], at: Cursor, loss: Loss) -> Cursor {
     match loss {
         Loss::Mean(mean) => {
-            let answered = at.meet_refusal(words, accepted());
+            let answered = at.meet_accepted(words);
             answered.meet_floats(words, &[mean])
         }
         Loss::Refused(refusal) => {

@@ -1,14 +1,16 @@
-// Inner crate: settled cases of the public calls, each a slice of words. A case gives the arguments of one call, what the
-// call must answer, and what it must leave in every slice that it was lent. f32 numbers are words of 32 bits.
+// Inner crate: settled cases of the check, initialisation, prediction and loss, each a slice of words. A case gives the
+// arguments of one call, what the call must answer, and what it must leave in every slice that it was lent. f32 numbers are
+// words of 32 bits.
 mod calls;
-mod cursor;
-mod read;
-mod single;
 
-pub use calls::check_agrees;
-pub use calls::drawn_predict_agrees;
-pub use calls::initialise_agrees;
-pub use calls::loss_agrees;
-pub use calls::predict_agrees;
-pub use single::drawn_forward_agrees;
-pub use single::forward_agrees;
+// A tag that is none of these agrees with nothing.
+pub fn agrees(tag: u8, words: &[u64]) -> bool {
+    match tag {
+        b'C' => calls::check_agrees(words),
+        b'I' => calls::initialise_agrees(words),
+        b'P' => calls::predict_agrees(words),
+        b'Q' => calls::drawn_predict_agrees(words),
+        b'L' => calls::loss_agrees(words),
+        _ => false,
+    }
+}

@@ -27,6 +27,7 @@ use Rattle.demands.specs.Readings.{Admitted, RowReads, PredictReads, Los
 use Rattle.demands.specs.Alike.{LeftAlike}
 use Rattle.demands.specs.Demand.{Demand}
 use Rattle.demands.proofs.Places.{Siblings}
+use Rattle.demands.proofs.Passes.{nodes-same, reached-same}
 use Rattle.demands.proofs.Predicting.{pass-same, pass-outputs-same, predict-same, written-same}
 use Rattle.demands.proofs.Losing.{loss-same}
 use Rattle.demands.proofs.Training.{train-fault-same, train-done-same, train-left, left-none}
@@ -139,6 +140,10 @@ module _ (ws : List ℕ) (g : Grid) (D : Places) (ps qs : List Float) (differ : 
   pub demand-3 : Demand ws g D ps qs
   demand-3 =
       record {
+        readings = λ xs wide silent l h reached. (
+          sym (reached-same two xs wide silent l h) ∙ reached,
+          nodes-same two xs wide silent l h reached,
+        );
         forward = λ xs a b reads. (
           refusal-same xs a b reads,
           part-same xs a b reads,

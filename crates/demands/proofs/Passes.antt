@@ -69,11 +69,15 @@ module _ {B : Basis} {ws : List ℕ} {D : Places} {ps qs : List Float} (two : Si
         let before = all-less (finiteAfter B ps ws xs) l reached in
         one-layer l (omega arith) before (nodes-same l (omega arith) before)
 
+    -- and it reads them in both or in none
+    pub reached-same : (l : ℕ) → l ≤ length ws - 1 → allTo (finiteAfter B ps ws xs) l ≡ allTo (finiteAfter B qs ws xs) l
+    reached-same l h =
+        all-same (finiteAfter B ps ws xs) (finiteAfter B qs ws xs) l (λ j k reached.
+        ap allFinite (one-layer j (omega arith) reached (nodes-same j (omega arith) reached)))
+
     pub finite-same : nodesFinite B ps ws xs ≡ nodesFinite B qs ws xs
     unfolding nodesFinite
-    finite-same =
-        all-same (finiteAfter B ps ws xs) (finiteAfter B qs ws xs) (length ws - 1) (λ l h reached.
-        ap allFinite (one-layer l (omega arith) reached (nodes-same l (omega arith) reached)))
+    finite-same = reached-same (length ws - 1) (le-refl (length ws - 1))
 
     pub outputs-same : nodesFinite B ps ws xs ≡ true → outputsOf B ps ws xs ≡ outputsOf B qs ws xs
     unfolding nodesFinite

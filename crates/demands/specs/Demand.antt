@@ -1,6 +1,6 @@
 -- Demand 3 of all calls, with all their checks: "the same prediction, loss or training call answers both alike, refusals and step
 -- counts included; training leaves the other parameters equal and those coefficients as each model had them". Definitions only.
-use Prim.Native.Nat.{ℕ}
+use Prim.Native.Nat.{ℕ, _-_, _≤_}
 use mathlib.Core.Path.{_≡_}
 use mathlib.Core.Bool.{true}
 use mathlib.Core.List.{List}
@@ -9,6 +9,7 @@ use lib.Ieee.{Float}
 use Rattle.spline.specs.declared.Grid.{Grid}
 use Rattle.layers.specs.Basis.{basisOf}
 use Rattle.layers.specs.Widths.{inputWidth, outputWidth}
+use Rattle.rows.specs.Pass.{nodesOf}
 use Rattle.rows.specs.Batch.{batchFault}
 use Rattle.config.specs.declared.Outcome.{Outcome}
 use Rattle.admission.specs.Admission.{equipped, furnished}
@@ -19,13 +20,17 @@ use Rattle.network.specs.Loss.{Lost}
 use Rattle.training.specs.declared.calls.Training.{Training}
 use Rattle.training.specs.Step.{trainingFault}
 use Rattle.training.specs.Train.{Stepped, Trained}
-use Rattle.demands.specs.Silent.{Places}
+use Rattle.demands.specs.Silent.{Places, Reaches, RowSilent}
 use Rattle.demands.specs.Readings.{Admitted, RowReads, PredictReads, LossReads, TrainReads}
 use Rattle.demands.specs.Alike.{LeftAlike}
 
 -- the models ps and qs are answered alike, whatever else a call is given, if the coefficients of the set are silent at all that it
 -- reads on ps past its checks
 pub record Demand (ws : List ℕ) (g : Grid) (D : Places) (ps qs : List Float) : Type 0 where
+  -- the edges of both read the same numbers of a row, so the premise says the same of either model
+  pub readings : (xs : List Float) → length xs ≡ inputWidth ws → RowSilent (basisOf g) ws D ps xs → (l : ℕ) → l ≤ length ws - 1
+      → Reaches (basisOf g) ps ws xs l
+      → Reaches (basisOf g) qs ws xs l × (nodesOf (basisOf g) ps ws xs l ≡ nodesOf (basisOf g) qs ws xs l)
   -- a single `forward`: the lent number, the part handed back and both work slices
   pub forward : (xs a b : List Float)
       → (Admitted (equipped ws g (length ps) (length a) (length b)) → RowReads (basisOf g) ws D ps xs)

@@ -1,32 +1,33 @@
--- The instance of demand 3, computed. Assumes nothing.
+-- The instance of demand 3: its premise computed, and its conclusion from demand 3 and the settled example. Assumes nothing.
 use Prim.Native.Nat.{ℕ, zero, suc, _%_, _≤_, _<_}
 use native.Mathlib.Omega.{arith}
-use mathlib.Core.Path.{_≡_, refl, sym, subst}
+use mathlib.Core.Path.{_≡_, refl, sym, ap, _∙_, subst}
 use mathlib.Core.Logic.{_⊎_, inl, inr}
 use mathlib.Core.Bool.{Bool, true, false, _||_, true≢false}
-use mathlib.Core.List.{[], _∷_}
+use mathlib.Core.List.{List, [], _∷_}
 use lib.Dec.{T, eqb, eqb→eq, lit<, lit≤}
-use lib.Ieee.{binary32, fits, ofBits, round, add, sub, mul, div, neg, sum, eq, lt, le, ofInt}
-use Rattle.floats.specs.Binary32.{zero32, one32}
-use Rattle.floats.specs.Sums.{at, sumFrom, tabulate, allTo, allFinite, flatTo}
-use Rattle.exponential.specs.Exponential.{expOf}
+use lib.Seq.{ext-getD}
+use lib.Ieee.{Float, nan, binary32, fits, ofBits, round, add, sub, mul, div, neg, sum, eq, lt, le, ofInt}
+use Rattle.floats.specs.Binary32.{zero32, minusZero32, one32}
+use Rattle.floats.specs.Sums.{at, allTo, allFinite}
 use Rattle.spline.specs.Spline.{widthOf, knotOf, portionOf, indicatorOf, blendOf, coxOf, outsideOf, valueOf, slopeOf}
-use Rattle.spline.specs.Activation.{siluOf}
 use Rattle.layers.specs.Basis.{basisOf}
 use Rattle.layers.specs.Widths.{paramsTo}
-use Rattle.layers.specs.Layer.{dotOf, edgeWith, edgeOf, nodeOf, layerOf}
-use Rattle.rows.specs.Pass.{nodesOf, nodesFinite, rowFault}
-use Rattle.rows.specs.Batch.{rowsIn, firstFault, doneTo, rowsFault, batchFault}
-use Rattle.gradients.specs.Gradient.{slotOf, layerSlots, upsOf, rowGradient}
-use Rattle.descent.specs.Accumulate.{allPass, gathered, movesFinite, movedOf}
-use Rattle.training.specs.Step.{rateSound, trainingFault, gradientOf, stepFault, stepped}
-use Rattle.training.specs.Train.{modelAfter, startFault, trainFault, trainDone, trainModel}
+use Rattle.rows.specs.Pass.{nodesOf}
+use Rattle.rows.specs.Batch.{rowsIn}
+use Rattle.config.specs.declared.Checked.{Checked}
+use Rattle.config.specs.declared.Outcome.{Outcome}
+use Rattle.admission.specs.Admission.{furnished, answered, written, sweptOf, parametersOf, twiceNodes}
+use Rattle.training.specs.Train.{modelAfter, trainFault, trainModel, outcomeOf}
 use Rattle.demands.specs.Silent.{Differ, RowSilent}
 use Rattle.demands.specs.Readings.{TrainReads}
+use Rattle.demands.specs.Alike.{LeftAlike}
+use Rattle.demands.proofs.Demand.{demand-3}
 use Rattle.examples.specs.Starred.{bits, unitGrid, oneToOne, weighted, fiveZeros}
 use Rattle.examples.specs.Instance.{outer, changed, Instance}
+use Rattle.examples.proofs.Starred.{starred}
 
--- ---- the two models
+-- ---- the two places
 two-places : (p : ℕ) → outer p ≡ true → (p ≡ 2) ⊎ (p ≡ 6)
 two-places p d = go (eqb p 2) refl (eqb p 6) refl d
   where
@@ -35,22 +36,24 @@ two-places p d = go (eqb p 2) refl (eqb p 6) refl d
     go false e true f d = inr (eqb→eq p 6 (subst T (sym f) tt))
     go false e false f d = absurd (true≢false (sym d))
 
--- what holds at both places holds at every place of the set
+-- what holds at both holds at every place of the set
 of-both : (P : ℕ → Type 0) → P 2 → P 6 → (p : ℕ) → outer p ≡ true → P p
 of-both P first last p d = elim (two-places p d) [
   | inl e ↦ subst P (sym e) first
   | inr e ↦ subst P (sym e) last
 ]
 
-same : (p : ℕ) → outer p ≡ false → at (weighted fiveZeros) p ≡ at changed p
-same zero d = refl
-same (suc zero) d = refl
-same (suc (suc zero)) d = absurd (true≢false d)
-same (suc (suc (suc zero))) d = refl
-same (suc (suc (suc (suc zero)))) d = refl
-same (suc (suc (suc (suc (suc zero))))) d = refl
-same (suc (suc (suc (suc (suc (suc zero)))))) d = absurd (true≢false d)
-same (suc (suc (suc (suc (suc (suc (suc p))))))) d = refl
+-- two models with the same inner coefficients are the same elsewhere
+inner-same : (a e a′ e′ b c d : Float) (p : ℕ) → outer p ≡ false
+    → at (weighted (a ∷ b ∷ c ∷ d ∷ e ∷ [])) p ≡ at (weighted (a′ ∷ b ∷ c ∷ d ∷ e′ ∷ [])) p
+inner-same a e a′ e′ b c d zero h = refl
+inner-same a e a′ e′ b c d (suc zero) h = refl
+inner-same a e a′ e′ b c d (suc (suc zero)) h = absurd (true≢false h)
+inner-same a e a′ e′ b c d (suc (suc (suc zero))) h = refl
+inner-same a e a′ e′ b c d (suc (suc (suc (suc zero)))) h = refl
+inner-same a e a′ e′ b c d (suc (suc (suc (suc (suc zero))))) h = refl
+inner-same a e a′ e′ b c d (suc (suc (suc (suc (suc (suc zero)))))) h = absurd (true≢false h)
+inner-same a e a′ e′ b c d (suc (suc (suc (suc (suc (suc (suc p))))))) h = refl
 
 differs : Differ 7 outer (weighted fiveZeros) changed
 unfolding allFinite allTo ofBits fits
@@ -60,7 +63,7 @@ differs =
       finite = (refl, refl);
       within = of-both (λ p. p < 7) (lit< tt) (lit< tt);
       coefficient = of-both (λ p. 2 ≤ p % 7) (lit≤ tt) (lit≤ tt);
-      others = same;
+      others = inner-same zero32 zero32 (bits 0xc0f0_0000) minusZero32 zero32 zero32 zero32;
       floats = of-both (λ p. T (fits binary32 (at (weighted fiveZeros) p)) × T (fits binary32 (at changed p))) (tt, tt) (tt, tt);
     }
 
@@ -84,9 +87,52 @@ reads zero h clear zero l before = row-silent
 reads zero h clear (suc r) l before = absurd (omega arith)
 reads (suc s) h clear r l before = absurd (omega arith)
 
+-- ---- the step on both, lent 7 and 4 numbers
+abbrev gradients : List Float
+gradients = weighted fiveZeros
+
+abbrev work : List Float
+work = zero32 ∷ zero32 ∷ zero32 ∷ zero32 ∷ []
+
+abbrev supply : Checked
+supply = furnished oneToOne (unitGrid 2) 7 7 4
+
+abbrev answerOf : List Float → Outcome
+answerOf ms = answered supply (outcomeOf (trainFault (basisOf (unitGrid 2)) ms oneToOne (zero32 ∷ []) (one32 ∷ []) (bits 0x3f00_0000) 1))
+
+abbrev after : List Float → List Float
+after ms = written supply ms (trainModel (basisOf (unitGrid 2)) ms oneToOne (zero32 ∷ []) (one32 ∷ []) (bits 0x3f00_0000) 1)
+
+alike : (answerOf (weighted fiveZeros) ≡ answerOf changed)
+    × LeftAlike outer (weighted fiveZeros) changed (after (weighted fiveZeros)) (after changed)
+alike =
+    let cleared = sweptOf parametersOf supply gradients in
+    let swept = sweptOf twiceNodes supply work in
+    let both = demand-3 oneToOne (unitGrid 2) outer (weighted fiveZeros) changed differs .step (zero32 ∷ []) (one32 ∷ []) (bits 0x3f00_0000)
+    gradients work (λ admitted sound. reads) (answerOf (weighted fiveZeros)) (answerOf changed) (after (weighted fiveZeros)) cleared swept
+    (after changed) cleared swept (record { answer = refl; model = refl; gradients = refl; work = refl })
+    (record { answer = refl; model = refl; gradients = refl; work = refl }) in
+    (both .0, both .1)
+
+abbrev moved : List Float
+moved = weighted (bits 0xc0f0_0000 ∷ bits 0x3e2a_aaab ∷ bits 0x3f2a_aaab ∷ bits 0x3e2a_aaab ∷ minusZero32 ∷ [])
+
+left-at : (p : ℕ) → at (after changed) p ≡ at moved p
+left-at p = go (outer p) refl
+  where
+    go : (b : Bool) → outer p ≡ b → at (after changed) p ≡ at moved p
+    go true d = alike .1 .kept p d .1 ∙ of-both (λ p. at changed p ≡ at moved p) refl refl p d
+    go false d =
+        sym (alike .1 .others p d) ∙ ap (λ (ms : List Float). at ms p) (starred .stepped)
+        ∙ inner-same zero32 zero32 (bits 0xc0f0_0000) minusZero32 (bits 0x3e2a_aaab) (bits 0x3f2a_aaab) (bits 0x3e2a_aaab) p d
+
 pub met : Instance
-unfolding ofBits round add sub mul div neg sum eq lt le ofInt sumFrom tabulate allTo allFinite flatTo expOf widthOf knotOf portionOf
-    indicatorOf blendOf coxOf outsideOf valueOf siluOf paramsTo dotOf edgeWith edgeOf nodeOf layerOf nodesOf nodesFinite rowFault rowsIn
-    firstFault doneTo rowsFault batchFault slotOf layerSlots upsOf rowGradient allPass gathered movesFinite movedOf rateSound trainingFault
-    gradientOf stepFault stepped modelAfter startFault trainFault trainDone trainModel
-met = record { apart = refl; differ = differs; reads = reads; taken = refl; left = refl }
+unfolding ofBits eq
+met =
+    record {
+      apart = refl;
+      differ = differs;
+      reads = reads;
+      taken = sym (alike .0) ∙ starred .accepted;
+      left = ext-getD nan (after changed) moved (alike .1 .sizes .1) (λ p h. left-at p);
+    }

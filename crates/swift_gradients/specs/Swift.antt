@@ -1,15 +1,10 @@
--- What the steps of a layer backwards by four slopes and four values promise and ask; no part of the meaning. Definitions only.
-use Prim.Native.Nat.{ℕ, _+_, _*_, _≤_, _<_}
-use mathlib.Core.Path.{_≡_}
-use mathlib.Core.Logic.{_⊎_}
-use mathlib.Core.Bool.{not}
+-- What the steps of a layer backwards by four slopes promise and ask; no part of the meaning. Definitions only.
+use Prim.Native.Nat.{ℕ, _*_}
 use mathlib.Core.List.{List}
-use lib.Dec.{T}
-use lib.ListN.{length, drop}
-use lib.Ieee.{Float, binary32, fits}
-use Rattle.floats.specs.Binary32.{_⊕_, _⊗_}
-use Rattle.floats.specs.Sums.{sumTo, at}
-use Rattle.floats.specs.Zeros.{isMinusZero}
+use lib.ListN.{drop}
+use lib.Ieee.{Float}
+use Rattle.floats.specs.Binary32.{_⊗_}
+use Rattle.floats.specs.Sums.{at}
 use Rattle.support.specs.declared.Four.{Four}
 use Rattle.layers.specs.Basis.{Basis}
 use Rattle.swift_layers.specs.Swift.{edgeFour}
@@ -22,7 +17,3 @@ backAt B ps w x ups i o = backOf B (edgeAt B ps w o i) x (at ups o)
 -- the same from the rise of SiLU and four slopes at x, where the edges' parameters lie at `first` in rows of `row` numbers
 abbrev pub backFour : List Float → ℕ → ℕ → Float → Four → List Float → ℕ → Float
 backFour ps row first s r ups o = at ups o ⊗ edgeFour (drop first (drop (o * row) ps)) s r
-
--- the first n numbers are f32 and none is -0.0: sums that begin at +0.0 stay so, and a zero added to one leaves it
-abbrev pub Clean : ℕ → List Float → Type 0
-Clean n ds = (k : ℕ) → k < n → T (fits binary32 (at ds k)) × T (not (isMinusZero (at ds k)))

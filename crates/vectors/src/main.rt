@@ -2,7 +2,6 @@
 // the public calls, against the proved crates, and prints for each list how many cases of each tag agree. Its file `stdout`
 // says that all do.
 mod cases;
-mod leaves;
 mod report;
 
 use replay::Line;
@@ -59,7 +58,7 @@ fn run_file(name: &[u8], path: &[u8]) {
         report::unread(name, b"missing");
         return;
     }
-    let mut text = [0u8; 524288];
+    let mut text = [0u8; 262144];
     let length = io::read_full(file, &mut text);
     let mut spare = [0u8; 1];
     let more = libc::read(file, &mut spare);

@@ -23,11 +23,8 @@ check-requires c κs = search needs
 enum-known-sizes : tie.Need-enum-known-sizes
 enum-known-sizes c = search needs
 
-accepted-requires : tie.Need-accepted-requires
-accepted-requires c κs = search needs
-
-meet-refusal-requires : tie.Need-meet-refusal-requires
-meet-refusal-requires c κs = search needs
+meet-accepted-requires : tie.Need-meet-accepted-requires
+meet-accepted-requires c κs = search needs
 
 meet-requires : tie.Need-meet-requires
 meet-requires c κs = search needs
@@ -38,8 +35,8 @@ is-end-requires c κs = search needs
 enum-known-refusal : tie.Need-enum-known-refusal
 enum-known-refusal c = search needs
 
-meet-refusal-requires-2 : tie.Need-meet-refusal-requires-2
-meet-refusal-requires-2 c κs = search needs
+meet-refusal-requires : tie.Need-meet-refusal-requires
+meet-refusal-requires c κs = search needs
 
 meet-requires-2 : tie.Need-meet-requires-2
 meet-requires-2 c κs = search needs
@@ -63,12 +60,11 @@ check-agrees-spec =
     slice-aggregate-check
     check-requires
     enum-known-sizes
-    accepted-requires
-    meet-refusal-requires
+    meet-accepted-requires
     meet-requires
     is-end-requires
     enum-known-refusal
-    meet-refusal-requires-2
+    meet-refusal-requires
     meet-requires-2
     is-end-requires-2
     returns

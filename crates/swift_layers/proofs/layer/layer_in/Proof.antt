@@ -125,7 +125,8 @@ add-input-requires c κs =
     let start = at-calm .before .before .before in
     let a = start .args in
     let p = start .pre .0 in
-    let size = piece-length (at-loop .loop .work) (a .to) (a .n) (omega (arith, p .room, at-loop .loop .inv .1, at-work .work .given .1)) in (
+    let kept = at-loop .loop .inv .1 in
+    let size = piece-length (at-loop .loop .work) (a .to) (a .n) (omega (arith, p .room, kept, at-work .work .given .1)) in (
       record {
         grid = p .grid;
         some = p .some;

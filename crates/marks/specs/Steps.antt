@@ -6,6 +6,7 @@ use mathlib.Core.List.{List, [], _∷_}
 use lib.ListN.{length}
 use lib.Ieee.{Float}
 use Rattle.spline.specs.declared.Grid.{Grid}
+use Rattle.support.specs.Support.{Finite}
 use Rattle.layers.specs.Basis.{Basis}
 use Rattle.layers.specs.Widths.{paramsTo}
 use Rattle.rows.specs.Turns.{Fits, Layered, Ran}
@@ -28,6 +29,7 @@ pub record Held (g : Grid) (w n : ℕ) (a b : List Float) (ms : List ℕ) : Type
 -- a row's bytes are there, and all that its way through the layers asks for
 pub record Marks (g : Grid) (ps : List Float) (ws : List ℕ) (a b : List Float) (ms : List ℕ) : Type 0 where
   pub fits : Fits g ps ws a b
+  pub finite : Finite (length ps) ps
   pub bytes : paramsTo (g .intervals + 5) ws (length ws - 1) ≤ length ms
 
 -- all layers as a row's pass leaves them; where each value is finite, the bytes of the row are marked

@@ -47,13 +47,14 @@ fn mark_layers(
 {
     let layers = widths.len() - 1;
     let stride = grid.intervals + 5;
+    let table = exponential::scaled_powers();
     let mut at: usize = 0;
     for l in 0..layers {
         let w = widths[l];
         let next = l + 1;
         let n = widths[next];
         mark_held(grid, l, w, n, first, second, &mut map[at..]);
-        if !rows::turn(grid, &model[at..], l, w, n, first, second) {
+        if !rows::turn(grid, &table, &model[at..], l, w, n, first, second) {
             return false;
         }
         at = at + n * (w * stride);

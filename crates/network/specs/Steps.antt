@@ -1,6 +1,6 @@
 -- What the steps inside the calls promise and ask: no part of the calls' meaning. Definitions only.
 use Prim.Native.Nat.{ℕ, _-_, _*_, _%_, _≤_}
-use mathlib.Core.Bool.{cond}
+use mathlib.Core.Bool.{true, cond}
 use lib.Dec.{eqb}
 use mathlib.Core.Path.{_≡_}
 use mathlib.Core.List.{List, _++_}
@@ -11,7 +11,7 @@ use Rattle.layers.specs.Basis.{Basis}
 use Rattle.rows.specs.Batch.{rowsIn, SoundBatch}
 use Rattle.rows.specs.Pass.{outputsOf}
 use Rattle.rows.specs.Turns.{Past, holder, Fits}
-use Rattle.floats.specs.Sums.{zeros}
+use Rattle.floats.specs.Sums.{zeros, allFinite}
 use Rattle.layers.specs.Widths.{inputWidth, outputWidth}
 use Rattle.config.specs.declared.Outcome.{Outcome}
 use Rattle.admission.specs.Rows.{rowsOutcome}
@@ -24,6 +24,7 @@ use Rattle.network.specs.Predict.{rowsWritten, predictOutcome, predictWr
 -- the rows of a batch, with room for their outputs
 pub record Batched (g : Grid) (ps : List Float) (ws : List ℕ) (xs a b ys : List Float) (rows : ℕ) : Type 0 where
   pub fits : Fits g ps ws a b
+  pub finite : allFinite ps ≡ true
   pub count : rows ≡ rowsIn (length xs) (inputWidth ws)
   pub room : rows * outputWidth ws ≤ length ys
 
@@ -45,6 +46,7 @@ pub record BatchDone (B : Basis) (ps : List Float) (ws : List ℕ) (xs a b ys : 
 -- ---- loss: a sound batch, the rows' sum, and all past check 9
 pub record Measured (g : Grid) (ps : List Float) (ws : List ℕ) (xs ts a b : List Float) (rows : ℕ) : Type 0 where
   pub fits : Fits g ps ws a b
+  pub finite : allFinite ps ≡ true
   pub batch : SoundBatch (inputWidth ws) (outputWidth ws) xs ts
   pub count : rows ≡ rowsIn (length xs) (inputWidth ws)
 

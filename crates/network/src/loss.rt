@@ -97,8 +97,17 @@ fn sum_rows(
     let w = widths[0];
     let v = widths[layers];
     let mut sum: f32 = 0.0;
+    let table = exponential::scaled_powers();
     for r in 0..rows {
-        let number = rows::run_row(grid, widths, model, rows::row(inputs, w, r), first, second);
+        let number = rows::run_row(
+            grid,
+            &table,
+            widths,
+            model,
+            rows::row(inputs, w, r),
+            first,
+            second,
+        );
         if number != 0 {
             return Sum::Stopped(number);
         }

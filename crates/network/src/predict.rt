@@ -56,8 +56,17 @@ fn predict_rows(
     let layers = widths.len() - 1;
     let w = widths[0];
     let v = widths[layers];
+    let table = exponential::scaled_powers();
     for r in 0..rows {
-        let number = rows::run_row(grid, widths, model, rows::row(inputs, w, r), first, second);
+        let number = rows::run_row(
+            grid,
+            &table,
+            widths,
+            model,
+            rows::row(inputs, w, r),
+            first,
+            second,
+        );
         if number != 0 {
             return Outcome::Refused(Refusal { number, carried: r });
         }

@@ -30,7 +30,8 @@ fn pass(
         (now (first .entry)) (now (second .entry)) (now (first .exit)) (now (second .exit)) r ⌝ }
 {
     if floats::all_finite(model) {
-        return rows::run_row(grid, widths, model, row, first, second);
+        let table = exponential::scaled_powers();
+        return rows::run_row(grid, &table, widths, model, row, first, second);
     }
     11
 }

@@ -12,9 +12,11 @@ use lib.ListN.{length, take, drop, length-append, length-drop}
 use lib.Seq.{take-at, drop-at, drop-drop}
 use lib.Ieee.{Float}
 use borrow.Author.Tests.{eq-eqb, ne-eqb, eqb-true, eqb-false}
-use Rattle.floats.specs.Sums.{allTo, allFinite}
-use Rattle.floats.proofs.Loops.{front, rest, rest-length, tab-length, all-none, all-more, all-stop}
+use Rattle.floats.specs.Sums.{allTo, finiteAt, allFinite}
+use Rattle.floats.proofs.Loops.{front, rest, rest-length, tab-length, all-none, all-more, all-stop, all-each}
 use Rattle.spline.specs.declared.Grid.{Grid}
+use Rattle.support.specs.Support.{Finite}
+use Rattle.support.proofs.Dots.{finite-drop}
 use Rattle.layers.specs.Basis.{Basis, basisOf}
 use Rattle.layers.specs.Widths.{widthAt, layerSize, paramsTo}
 use Rattle.layers.specs.Layer.{layerOf}
@@ -180,6 +182,14 @@ fits-moved g ps ws a₀ b₀ a b f p q = record {
 pub inside : {g : Grid} {ps : List Float} {ws : List ℕ} {xs a₀ b₀ a b : List Float} (l at : ℕ) → l < length ws - 1 → Fits g ps ws a₀ b₀
     → Walked (basisOf g) ps ws xs a₀ b₀ l at a b → at + layerSize (g .intervals + 5) ws l ≤ length ps
 inside {g} {ps} {ws} l at h f k = omega (arith, params-room (g .intervals + 5) ws l (length ws - 1) h, k .part, f .params)
+
+-- a model with no parameter that is not finite (11), and a layer's part of it
+pub finite-model : (ps : List Float) → allFinite ps ≡ true → Finite (length ps) ps
+unfolding allFinite
+finite-model ps e = all-each (finiteAt ps) (length ps) e
+
+pub finite-part : (a n : ℕ) (ps : List Float) → Finite (length ps) ps → a + n ≤ length ps → Finite n (take (length ps - a) (drop a ps))
+finite-part a n ps f h = rw (rest a ps) (finite-drop a n (length ps) ps f h)
 
 pub may-turn : {g : Grid} {ps : List Float} {ws : List ℕ} {xs a₀ b₀ a b : List Float} (l at : ℕ) → l < length ws - 1
     → Fits g ps ws a₀ b₀ → Walked (basisOf g) ps ws xs a₀ b₀ l at a b

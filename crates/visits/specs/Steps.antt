@@ -1,9 +1,11 @@
 -- What the steps inside the call promise and ask: no part of its meaning. Definitions only.
 use Prim.Native.Nat.{ℕ, _+_, _-_}
 use mathlib.Core.Path.{_≡_}
+use mathlib.Core.Bool.{true}
 use mathlib.Core.List.{List}
 use lib.ListN.{length}
 use lib.Ieee.{Float}
+use Rattle.floats.specs.Sums.{allFinite}
 use Rattle.spline.specs.declared.Grid.{Grid}
 use Rattle.layers.specs.Basis.{Basis}
 use Rattle.layers.specs.Widths.{inputWidth, paramsTo}
@@ -21,6 +23,7 @@ pub record Admitted (g : Grid) (ps : List Float) (ws : List ℕ) (a b : List Flo
 -- the rows of a batch, and P bytes
 pub record Batched (g : Grid) (ps : List Float) (ws : List ℕ) (xs a b : List Float) (ms : List ℕ) (rows : ℕ) : Type 0 where
   pub fits : Fits g ps ws a b
+  pub finite : allFinite ps ≡ true
   pub count : rows ≡ rowsIn (length xs) (inputWidth ws)
   pub bytes : length ms ≡ paramsTo (g .intervals + 5) ws (length ws - 1)
 

@@ -5,7 +5,7 @@ use native.Mathlib.Nat.{le-of-eq}
 use native.Mathlib.Omega.{arith}
 use Rattle.layers.specs.Basis.{basisOf}
 use Rattle.rows.proofs.Batches.{row-begins}
-use Rattle.rows.proofs.Passes.{fits-moved}
+use Rattle.rows.proofs.Passes.{fits-moved, finite-model, finite-model}
 use Rattle.visits.proofs.Rows.{Going, marks-length, before-first, one-row, row-refused, all-rows}
 use borrow.Author.Needs.{needs}
 use Rattle.visits.proofs.mark_rows.Statement.{statement}
@@ -44,6 +44,7 @@ mark-row-requires c κs =
     let g = at-loop .loop .inv .1 in
     record {
       fits = fits-moved _ _ _ _ _ _ _ (start .pre .fits) (g .sizeA) (g .sizeB);
+      finite = finite-model _ (start .pre .finite);
       bytes = le-of-eq (sym (marks-length _ _ _ _ _ _ (g .bytes)));
     }
 

@@ -32,10 +32,13 @@ rows-in-requires c κs =
 mark-rows-requires : tie.Need-mark-rows-requires
 mark-rows-requires c κs =
     let at-rows-in = c .before .before .before in
-    let at-if1 = at-rows-in .before .before .before .before in
+    let at-if2 = at-rows-in .before .before in
+    let at-all-finite = at-if2 .before in
+    let at-if1 = at-all-finite .before in
     let start = at-if1 .before .before .before .before .before .before .before in
     record {
       fits = start .pre .fits;
+      finite = sym (at-all-finite .all-finite .ensures) ∙ not-false _ (at-if2 .if2 .left);
       count = at-rows-in .rows-in .ensures;
       bytes = at-if1 .if1 .left ∙ start .pre .model;
     }

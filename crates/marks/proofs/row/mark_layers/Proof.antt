@@ -8,24 +8,33 @@ use lib.Seq.{length-take-le}
 use borrow.Author.Tests.{not-true, not-false}
 use Rattle.floats.proofs.Loops.{row-room}
 use Rattle.layers.specs.Widths.{widthAt}
-use Rattle.rows.proofs.Passes.{inside, may-turn, keeps, one-layer, stopped}
+use Rattle.rows.proofs.Passes.{inside, finite-part, may-turn, keeps, one-layer, stopped}
 use Rattle.marks.proofs.Rows.{Marching, before-layers, layer-inside, layer-held, layer-marked, layers-stopped, layers-marked}
 use borrow.Author.Needs.{needs}
 use Rattle.marks.proofs.row.mark_layers.Statement.{statement}
 use Rattle.marks.proofs.row.mark_layers.Tie as tie
 
 abbrev Inv-loop : tie.InvT-loop
-Inv-loop grid widths model first₀ second₀ map₀ layers stride at₀ l₀ first second map at l =
+Inv-loop grid widths model first₀ second₀ map₀ layers stride table at₀ l₀ first second map at l =
     (l ≤ layers) × Marching grid model widths (take (widthAt widths 0) second₀) first₀ second₀ map₀ l at first second map
 
 abbrev μ-loop : tie.MeasureT-loop
-μ-loop grid widths model first₀ second₀ map₀ layers stride at₀ l₀ first second map at l = layers - l
+μ-loop grid widths model first₀ second₀ map₀ layers stride table at₀ l₀ first second map at l = layers - l
 
 sub-layers : tie.Need-sub-layers Inv-loop μ-loop
-sub-layers c = omega (arith, c .before .before .before .before .before .pre .fits .some)
+sub-layers c =
+    let at-before = c .before .before .before .before in
+    let start = at-before .before in
+    omega (arith, start .pre .fits .some)
 
 add-stride : tie.Need-add-stride Inv-loop μ-loop
-add-stride c = omega (arith, c .before .before .before .before .before .before .pre .fits .grid)
+add-stride c =
+    let at-before = c .before .before .before .before .before in
+    let start = at-before .before in
+    omega (arith, start .pre .fits .grid)
+
+scaled-powers-requires : tie.Need-scaled-powers-requires Inv-loop μ-loop
+scaled-powers-requires c κs = search needs
 
 loop-holds : tie.Need-loop-holds Inv-loop μ-loop
 loop-holds c = (omega arith, before-layers _ _ _ _ _ _ _ refl)
@@ -47,16 +56,18 @@ shared-slice-read-n c = omega arith
 
 sub-mark-held : tie.Need-sub-mark-held Inv-loop μ-loop
 sub-mark-held c =
-    let at-loop-test = c .before .before .before .before in
+    let at-before = c .before .before .before in
+    let at-loop-test = at-before .before in
     let at-loop = at-loop-test .before in
-    let start = at-loop .before .before .before .before .before .before .before in
+    let start = at-loop .before .before .before .before .before .before .before .before in
     omega (arith, layer-inside _ _ (at-loop-test .loop-test .taken) (start .pre) (at-loop .loop .inv .1))
 
 part-mark-held-start : tie.Need-part-mark-held-start Inv-loop μ-loop
 part-mark-held-start c =
-    let at-loop-test = c .before .before .before .before in
+    let at-before = c .before .before .before in
+    let at-loop-test = at-before .before in
     let at-loop = at-loop-test .before in
-    let start = at-loop .before .before .before .before .before .before .before in
+    let start = at-loop .before .before .before .before .before .before .before .before in
     omega (arith, layer-inside _ _ (at-loop-test .loop-test .taken) (start .pre) (at-loop .loop .inv .1))
 
 part-mark-held-end : tie.Need-part-mark-held-end Inv-loop μ-loop
@@ -64,74 +75,88 @@ part-mark-held-end c = omega arith
 
 mark-held-requires : tie.Need-mark-held-requires Inv-loop μ-loop
 mark-held-requires c κs =
-    let at-loop-test = c .before .before .before .before .before in
+    let at-before = c .before .before .before .before in
+    let at-loop-test = at-before .before in
     let at-loop = at-loop-test .before in
-    let start = at-loop .before .before .before .before .before .before .before in
+    let start = at-loop .before .before .before .before .before .before .before .before in
     layer-held _ _ (at-loop-test .loop-test .taken) (start .pre) (at-loop .loop .inv .1)
 
 mul-turn : tie.Need-mul-turn Inv-loop μ-loop
 mul-turn c =
-    let at-loop-test = c .before .before .before .before .before .before .before .before in
+    let at-before = c .before .before .before .before .before .before .before .before in
+    let at-loop-test = at-before .before in
     let at-loop = at-loop-test .before in
-    let start = at-loop .before .before .before .before .before .before .before in
+    let start = at-loop .before .before .before .before .before .before .before .before in
     omega (arith, inside _ _ (at-loop-test .loop-test .taken) (start .pre .fits) (at-loop .loop .inv .1 .walked))
 
 sub-turn : tie.Need-sub-turn Inv-loop μ-loop
 sub-turn c =
-    let at-loop-test = c .before .before .before .before .before .before .before .before in
+    let at-before = c .before .before .before .before .before .before .before .before in
+    let at-loop-test = at-before .before in
     let at-loop = at-loop-test .before in
-    let start = at-loop .before .before .before .before .before .before .before in
+    let start = at-loop .before .before .before .before .before .before .before .before in
     omega (arith, inside _ _ (at-loop-test .loop-test .taken) (start .pre .fits) (at-loop .loop .inv .1 .walked))
 
 part-turn-start : tie.Need-part-turn-start Inv-loop μ-loop
 part-turn-start c =
-    let at-loop-test = c .before .before .before .before .before .before .before .before in
+    let at-before = c .before .before .before .before .before .before .before .before in
+    let at-loop-test = at-before .before in
     let at-loop = at-loop-test .before in
-    let start = at-loop .before .before .before .before .before .before .before in
+    let start = at-loop .before .before .before .before .before .before .before .before in
     omega (arith, inside _ _ (at-loop-test .loop-test .taken) (start .pre .fits) (at-loop .loop .inv .1 .walked))
 
 part-turn-end : tie.Need-part-turn-end Inv-loop μ-loop
 part-turn-end c =
-    let at-loop-test = c .before .before .before .before .before .before .before .before in
+    let at-before = c .before .before .before .before .before .before .before .before in
+    let at-loop-test = at-before .before in
     let at-loop = at-loop-test .before in
-    let start = at-loop .before .before .before .before .before .before .before in
+    let start = at-loop .before .before .before .before .before .before .before .before in
     omega (arith, inside _ _ (at-loop-test .loop-test .taken) (start .pre .fits) (at-loop .loop .inv .1 .walked))
 
 turn-requires : tie.Need-turn-requires Inv-loop μ-loop
 turn-requires c κs =
-    let at-loop-test = c .before .before .before .before .before .before .before .before .before .before .before in
+    let at-before = c .before .before .before .before .before .before .before .before .before .before .before in
+    let at-loop-test = at-before .before in
     let at-loop = at-loop-test .before in
-    let start = at-loop .before .before .before .before .before .before .before in
-    may-turn _ _ (at-loop-test .loop-test .taken) (start .pre .fits) (at-loop .loop .inv .1 .walked)
+    let at-scaled-powers = at-loop .before in
+    let start = at-scaled-powers .before .before .before .before .before .before .before in (
+      may-turn _ _ (at-loop-test .loop-test .taken) (start .pre .fits) (at-loop .loop .inv .1 .walked),
+      at-scaled-powers .scaled-powers .ensures,
+      finite-part _ _ (start .args .model .now) (start .pre .finite) (inside _ _ (at-loop-test .loop-test .taken) (start .pre .fits) (at-loop .loop .inv .1 .walked)),
+    )
 
 same-length : tie.Need-same-length Inv-loop μ-loop
 same-length c =
-    let at-turn = c .before .before .before .before .before in
-    let at-loop-test = at-turn .before .before .before .before .before .before .before .before .before .before .before .before in
+    let at-before = c .before .before .before .before in
+    let at-turn = at-before .before in
+    let at-loop-test = at-turn .before .before .before .before .before .before .before .before .before .before .before .before .before in
     let at-loop = at-loop-test .before in
-    let start = at-loop .before .before .before .before .before .before .before in
+    let start = at-loop .before .before .before .before .before .before .before .before in
     keeps _ _ (at-loop-test .loop-test .taken) (start .pre .fits) (at-loop .loop .inv .1 .walked) (at-turn .turn .ensures) .sizeA
 
 same-length-2 : tie.Need-same-length-2 Inv-loop μ-loop
 same-length-2 c =
-    let at-turn = c .before .before .before .before .before in
-    let at-loop-test = at-turn .before .before .before .before .before .before .before .before .before .before .before .before in
+    let at-before = c .before .before .before .before in
+    let at-turn = at-before .before in
+    let at-loop-test = at-turn .before .before .before .before .before .before .before .before .before .before .before .before .before in
     let at-loop = at-loop-test .before in
-    let start = at-loop .before .before .before .before .before .before .before in
+    let start = at-loop .before .before .before .before .before .before .before .before in
     keeps _ _ (at-loop-test .loop-test .taken) (start .pre .fits) (at-loop .loop .inv .1 .walked) (at-turn .turn .ensures) .sizeB
 
 same-length-3 : tie.Need-same-length-3 Inv-loop μ-loop
 same-length-3 c =
-    let at-map = c .before .before .before .before .before .before .before .before .before .before in
+    let at-before = c .before .before .before .before .before .before .before .before .before .before in
+    let at-map = at-before .before in
     let at-loop = at-map .before .before .before .before .before .before .before .before in
     at-map .map .given .1 ∙ at-loop .loop .inv .1 .size
 
 returns : tie.Need-returns Inv-loop μ-loop
 returns c =
-    let at-turn = c .before .before .before .before .before in
-    let at-loop-test = at-turn .before .before .before .before .before .before .before .before .before .before .before .before in
+    let at-before = c .before .before .before .before in
+    let at-turn = at-before .before in
+    let at-loop-test = at-turn .before .before .before .before .before .before .before .before .before .before .before .before .before in
     let at-loop = at-loop-test .before in
-    let start = at-loop .before .before .before .before .before .before .before in
+    let start = at-loop .before .before .before .before .before .before .before .before in
     let k = at-loop .loop .inv .1 .walked in
     let kept = keeps _ _ (at-loop-test .loop-test .taken) (start .pre .fits) k (at-turn .turn .ensures) in
     layers-stopped _ _ _ _ _ _ _ _ _ _
@@ -139,43 +164,46 @@ returns c =
 
 mul-at : tie.Need-mul-at Inv-loop μ-loop
 mul-at c =
-    let at-turn = c .before .before .before .before .before in
-    let at-loop-test = at-turn .before .before .before .before .before .before .before .before .before .before .before .before in
+    let at-before = c .before .before .before .before .before .before .before .before .before .before .before .before .before .before .before .before .before in
+    let at-loop-test = at-before .before in
     let at-loop = at-loop-test .before in
-    let start = at-loop .before .before .before .before .before .before .before in
+    let start = at-loop .before .before .before .before .before .before .before .before in
     let i = inside _ _ (at-loop-test .loop-test .taken) (start .pre .fits) (at-loop .loop .inv .1 .walked) in
     omega (arith, row-room _ _ _ (start .pre .fits .positive (at-loop .loop .l + 1) (omega arith)) (le-trans (le-add-left _ _) i))
 
 mul-at-2 : tie.Need-mul-at-2 Inv-loop μ-loop
 mul-at-2 c =
-    let at-turn = c .before .before .before .before .before in
-    let at-loop-test = at-turn .before .before .before .before .before .before .before .before .before .before .before .before in
+    let at-before = c .before .before .before .before .before .before .before .before .before .before .before .before .before .before .before .before .before in
+    let at-loop-test = at-before .before in
     let at-loop = at-loop-test .before in
-    let start = at-loop .before .before .before .before .before .before .before in
+    let start = at-loop .before .before .before .before .before .before .before .before in
     omega (arith, inside _ _ (at-loop-test .loop-test .taken) (start .pre .fits) (at-loop .loop .inv .1 .walked))
 
 add-at : tie.Need-add-at Inv-loop μ-loop
 add-at c =
-    let at-turn = c .before .before .before .before .before in
-    let at-loop-test = at-turn .before .before .before .before .before .before .before .before .before .before .before .before in
+    let at-before = c .before .before .before .before .before .before .before .before .before .before .before .before .before .before .before .before .before in
+    let at-loop-test = at-before .before in
     let at-loop = at-loop-test .before in
-    let start = at-loop .before .before .before .before .before .before .before in
+    let start = at-loop .before .before .before .before .before .before .before .before in
     omega (arith, inside _ _ (at-loop-test .loop-test .taken) (start .pre .fits) (at-loop .loop .inv .1 .walked))
 
 add-l : tie.Need-add-l Inv-loop μ-loop
-add-l c = omega arith
+add-l c =
+    let at-loop-test = c .before .before .before .before .before .before .before .before .before .before .before .before .before .before .before .before .before .before in
+    omega (arith, at-loop-test .loop-test .taken)
 
 loop-less : tie.Need-loop-less Inv-loop μ-loop
 loop-less c = omega arith
 
 loop-again : tie.Need-loop-again Inv-loop μ-loop
 loop-again c =
-    let at-turn = c .before .before .before .before .before in
-    let at-map = at-turn .before .before .before .before .before in
+    let at-before = c .before .before .before .before in
+    let at-turn = at-before .before in
+    let at-map = at-turn .before .before .before .before .before .before in
     let at-mark-held = at-map .before in
     let at-loop-test = at-mark-held .before .before .before .before .before .before in
     let at-loop = at-loop-test .before in
-    let start = at-loop .before .before .before .before .before .before .before in
+    let start = at-loop .before .before .before .before .before .before .before .before in
     let m = at-loop .loop .inv .1 in
     let p = start .pre in
     let h = at-loop-test .loop-test .taken in
@@ -209,6 +237,7 @@ mark-layers-spec =
     μ-loop
     sub-layers
     add-stride
+    scaled-powers-requires
     loop-holds
     mul-w
     shared-slice-read-w

@@ -35,7 +35,7 @@ mark-layers-requires c κs =
     let wide = full _ _ (sym (at-row-fault .row-fault .ensures) ∙ at-if1 .if1 .left) in
     let room : length row ≤ length (start .args .second .now) = omega (arith, wide, p .fits .second 0 (omega (arith, p .fits .some))) in
     let size = same-size row (length row) (start .args .second .now) _ refl room (at-copy .copy .ensures) in
-    record { fits = fits-moved _ _ _ _ _ _ _ (p .fits) refl size; bytes = p .bytes }
+    record { fits = fits-moved _ _ _ _ _ _ _ (p .fits) refl size; finite = p .finite; bytes = p .bytes }
 
 same-length : tie.Need-same-length
 same-length c = search needs

@@ -17,8 +17,7 @@ refused-requires : tie.Need-refused-requires
 refused-requires c κs = search needs
 
 returns : tie.Need-returns
-returns c =
-    loss-wild _ _ _ _ _ _ _ _ (c .refused .ensures) (sym (c .before .before .all-finite .ensures) ∙ not-true _ (c .before .if1 .taken))
+returns c = loss-wild _ _ _ _ _ _ _ _ (c .refused .ensures) (sym (c .before .before .all-finite .ensures) ∙ not-true _ (c .before .if1 .taken))
 
 sub-layers : tie.Need-sub-layers
 sub-layers c = search needs
@@ -59,9 +58,12 @@ sum-rows-requires : tie.Need-sum-rows-requires
 sum-rows-requires c κs =
     let at-if2 = c .before .before .before in
     let at-batch-fault = at-if2 .before in
-    let start = at-batch-fault .before .before .before .before .before .before .before .before .before .before .before in
+    let at-if1 = at-batch-fault .before .before .before in
+    let at-all-finite = at-if1 .before in
+    let start = at-all-finite .before .before .before .before .before .before .before in
     let p = start .pre in record {
       fits = p;
+      finite = sym (at-all-finite .all-finite .ensures) ∙ not-false _ (at-if1 .if1 .left);
       batch = (batch-sound _ _ _ _ (p .positive 0 (omega (arith, p .some))) (p .positive _ (omega (arith, p .some)))
           (sym (at-batch-fault .batch-fault .ensures) ∙ at-if2 .if2 .left));
       count = c .before .before .rows-in .ensures;

@@ -34,7 +34,8 @@ all-finite-requires c κs = search needs
 
 returns-2 : tie.Need-returns-2
 returns-2 c =
-    wild-model _ _ _ _ _ _ _ (sym (c .before .before .before .outputs-fit .ensures) ∙ not-false _ (c .before .before .if1 .left))
+    let at-outputs-fit = c .before .before .before in
+    wild-model _ _ _ _ _ _ _ (sym (at-outputs-fit .outputs-fit .ensures) ∙ not-false _ (c .before .before .if1 .left))
     (sym (c .before .all-finite .ensures) ∙ not-true _ (c .if2 .taken))
 
 rows-in-requires : tie.Need-rows-in-requires
@@ -46,11 +47,14 @@ rows-in-requires c κs =
 predict-rows-requires : tie.Need-predict-rows-requires
 predict-rows-requires c κs =
     let at-rows-in = c .before .before .before in
-    let at-if1 = at-rows-in .before .before .before in
+    let at-if2 = at-rows-in .before in
+    let at-all-finite = at-if2 .before in
+    let at-if1 = at-all-finite .before in
     let at-outputs-fit = at-if1 .before in
     let start = at-outputs-fit .before .before .before .before .before .before .before .before .before in
     record {
       fits = start .pre;
+      finite = sym (at-all-finite .all-finite .ensures) ∙ not-false _ (at-if2 .if2 .left);
       count = at-rows-in .rows-in .ensures;
       room = outputs-room _ _ _ _ _
           (sym (at-outputs-fit .outputs-fit .ensures) ∙ not-false _ (at-if1 .if1 .left)) (at-rows-in .rows-in .ensures);

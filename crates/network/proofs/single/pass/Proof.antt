@@ -1,6 +1,7 @@
 -- `network::pass` meets its contract. Assumes nothing.
 use Rattle.network.proofs.Passing.{ran-passed, wild-passed}
 use mathlib.Core.Path.{sym, _∙_}
+use Rattle.rows.proofs.Passes.{finite-model}
 use borrow.Author.Needs.{needs}
 use Rattle.network.proofs.single.pass.Statement.{statement}
 use Rattle.network.proofs.single.pass.Tie as tie
@@ -8,8 +9,16 @@ use Rattle.network.proofs.single.pass.Tie as tie
 all-finite-requires : tie.Need-all-finite-requires
 all-finite-requires c κs = search needs
 
+scaled-powers-requires : tie.Need-scaled-powers-requires
+scaled-powers-requires c κs = search needs
+
 run-row-requires : tie.Need-run-row-requires
-run-row-requires c κs = search needs
+run-row-requires c κs =
+    let at-scaled-powers = c .before .before .before in
+    let at-if1 = at-scaled-powers .before in
+    let at-all-finite = at-if1 .before in
+    let start = at-all-finite .before .before .before .before .before .before in
+    (start .pre, at-scaled-powers .scaled-powers .ensures, finite-model _ (sym (at-all-finite .all-finite .ensures) ∙ at-if1 .if1 .taken))
 
 same-length : tie.Need-same-length
 same-length c = search needs
@@ -18,7 +27,11 @@ same-length-2 : tie.Need-same-length-2
 same-length-2 c = search needs
 
 returns : tie.Need-returns
-returns c = ran-passed _ _ _ _ _ _ _ _ _ (sym (c .before .before .before .before .before .before .before .before .all-finite .ensures) ∙ c .before .before .before .before .before .before .before .if1 .taken) (c .before .before .before .before .run-row .ensures)
+returns c =
+    let at-run-row = c .before .before .before .before in
+    let at-if1 = at-run-row .before .before .before .before .before in
+    let at-all-finite = at-if1 .before in
+    ran-passed _ _ _ _ _ _ _ _ _ (sym (at-all-finite .all-finite .ensures) ∙ at-if1 .if1 .taken) (at-run-row .run-row .ensures)
 
 returns-2 : tie.Need-returns-2
 returns-2 c = wild-passed _ _ _ _ _ _ (sym (c .before .all-finite .ensures) ∙ c .if1 .left)
@@ -26,4 +39,4 @@ returns-2 c = wild-passed _ _ _ _ _ _ (sym (c .before .all-finite .ensures) ∙ 
 pub pass-spec : {M : Type 1} → statement M
 pass-spec =
     tie.close
-    (tie.spec all-finite-requires run-row-requires same-length same-length-2 returns returns-2)
+    (tie.spec all-finite-requires scaled-powers-requires run-row-requires same-length same-length-2 returns returns-2)

@@ -11,9 +11,7 @@ archive := $(or $(ESTIMATOR_LIB),target/staticlib)/libestimator.a
 tree = $(DESTDIR)$(PREFIX)
 
 test:
-	rt fmt --check
-	oracle/quick.sh
-	rt ci
+	scripts/test.sh
 
 demo: archive
 	@scripts/need.sh g++=g++

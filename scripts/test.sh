@@ -1,0 +1,12 @@
+#!/usr/bin/env bash
+# The verdict: `rt ci` proves everything from nothing, tries the edits that must fail and runs the programs. Only then, over
+# what is proved, come the comparisons with the Rust; at the end rt's last line, 'N passed, 0 failed', is said again.
+set -euo pipefail
+cd "$(dirname "$0")/.."
+
+log=$(mktemp)
+trap 'rm -f "$log"' EXIT
+rt fmt --check
+rt ci | tee "$log"
+oracle/quick.sh
+tail -n 1 "$log"

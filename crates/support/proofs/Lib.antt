@@ -3,6 +3,7 @@ pub mod Apart
 pub mod Triangles
 pub mod Found
 pub mod Covered
+pub mod Moved
 pub mod Valued
 pub mod Sloped
 pub mod Dots

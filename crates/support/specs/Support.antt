@@ -1,6 +1,6 @@
 -- Where a grid's knots have a finite span, an input lies in the support of four cubic basis values: which four, what they are
 -- by the triangle on six knots, and how they stand for all. No part of the meaning: `valueOf` and `slopeOf` are. Definitions only.
-use Prim.Native.Nat.{ℕ, _+_, _≤_, _<_}
+use Prim.Native.Nat.{ℕ, zero, suc, _+_, _-_, _≤_, _<_}
 use mathlib.Core.Path.{_≡_}
 use mathlib.Core.Bool.{Bool, true, false, cond}
 use mathlib.Core.List.{List}
@@ -24,49 +24,50 @@ pub record Holds (g : Grid) (x : Float) (at : ℕ) : Type 0 where
   pub from : le (knotOf g at) x ≡ true
   pub to : lt x (knotOf g (at + 1)) ≡ true
 
--- ---- the triangle for an x from knot f + 3 up to knot f + 4: two values of degree 1, three of degree 2, four of degree 3
+-- ---- the triangle for an x from knot a up to knot a + 1: two values of degree 1, three of degree 2, four of degree 3. Near the
+-- first knot some of them belong to no basis function; what they are then is of no use and does no harm.
 abbrev pub linearLow : Grid → ℕ → Float → Float
-linearLow g f x = portionOf (knotOf g (f + 4) ⊖ x) one32 (knotOf g (f + 4) ⊖ knotOf g (f + 3))
+linearLow g a x = portionOf (knotOf g (a + 1) ⊖ x) one32 (knotOf g (a + 1) ⊖ knotOf g a)
 
 abbrev pub linearHigh : Grid → ℕ → Float → Float
-linearHigh g f x = portionOf (x ⊖ knotOf g (f + 3)) one32 (knotOf g (f + 4) ⊖ knotOf g (f + 3))
+linearHigh g a x = portionOf (x ⊖ knotOf g a) one32 (knotOf g (a + 1) ⊖ knotOf g a)
 
 unfoldable pub squareLow : Grid → ℕ → Float → Float
-squareLow g f x = portionOf (knotOf g (f + 4) ⊖ x) (linearLow g f x) (knotOf g (f + 4) ⊖ knotOf g (f + 2))
+squareLow g a x = portionOf (knotOf g (a + 1) ⊖ x) (linearLow g a x) (knotOf g (a + 1) ⊖ knotOf g (a - 1))
 
 unfoldable pub squareMiddle : Grid → ℕ → Float → Float
-squareMiddle g f x =
-    portionOf (x ⊖ knotOf g (f + 2)) (linearLow g f x) (knotOf g (f + 4) ⊖ knotOf g (f + 2))
-    ⊕ portionOf (knotOf g (f + 5) ⊖ x) (linearHigh g f x) (knotOf g (f + 5) ⊖ knotOf g (f + 3))
+squareMiddle g a x =
+    portionOf (x ⊖ knotOf g (a - 1)) (linearLow g a x) (knotOf g (a + 1) ⊖ knotOf g (a - 1))
+    ⊕ portionOf (knotOf g (a + 2) ⊖ x) (linearHigh g a x) (knotOf g (a + 2) ⊖ knotOf g a)
 
 unfoldable pub squareHigh : Grid → ℕ → Float → Float
-squareHigh g f x = portionOf (x ⊖ knotOf g (f + 3)) (linearHigh g f x) (knotOf g (f + 5) ⊖ knotOf g (f + 3))
+squareHigh g a x = portionOf (x ⊖ knotOf g a) (linearHigh g a x) (knotOf g (a + 2) ⊖ knotOf g a)
 
 unfoldable pub cubeFirst : Grid → ℕ → Float → Float
-cubeFirst g f x = portionOf (knotOf g (f + 4) ⊖ x) (squareLow g f x) (knotOf g (f + 4) ⊖ knotOf g (f + 1))
+cubeFirst g a x = portionOf (knotOf g (a + 1) ⊖ x) (squareLow g a x) (knotOf g (a + 1) ⊖ knotOf g (a - 2))
 
 unfoldable pub cubeSecond : Grid → ℕ → Float → Float
-cubeSecond g f x =
-    portionOf (x ⊖ knotOf g (f + 1)) (squareLow g f x) (knotOf g (f + 4) ⊖ knotOf g (f + 1))
-    ⊕ portionOf (knotOf g (f + 5) ⊖ x) (squareMiddle g f x) (knotOf g (f + 5) ⊖ knotOf g (f + 2))
+cubeSecond g a x =
+    portionOf (x ⊖ knotOf g (a - 2)) (squareLow g a x) (knotOf g (a + 1) ⊖ knotOf g (a - 2))
+    ⊕ portionOf (knotOf g (a + 2) ⊖ x) (squareMiddle g a x) (knotOf g (a + 2) ⊖ knotOf g (a - 1))
 
 unfoldable pub cubeThird : Grid → ℕ → Float → Float
-cubeThird g f x =
-    portionOf (x ⊖ knotOf g (f + 2)) (squareMiddle g f x) (knotOf g (f + 5) ⊖ knotOf g (f + 2))
-    ⊕ portionOf (knotOf g (f + 6) ⊖ x) (squareHigh g f x) (knotOf g (f + 6) ⊖ knotOf g (f + 3))
+cubeThird g a x =
+    portionOf (x ⊖ knotOf g (a - 1)) (squareMiddle g a x) (knotOf g (a + 2) ⊖ knotOf g (a - 1))
+    ⊕ portionOf (knotOf g (a + 3) ⊖ x) (squareHigh g a x) (knotOf g (a + 3) ⊖ knotOf g a)
 
 unfoldable pub cubeFourth : Grid → ℕ → Float → Float
-cubeFourth g f x = portionOf (x ⊖ knotOf g (f + 3)) (squareHigh g f x) (knotOf g (f + 6) ⊖ knotOf g (f + 3))
+cubeFourth g a x = portionOf (x ⊖ knotOf g a) (squareHigh g a x) (knotOf g (a + 3) ⊖ knotOf g a)
 
 -- the three quotients of which the four slopes are differences
 abbrev pub riseLow : Grid → ℕ → Float → Float
-riseLow g f x = portionOf three32 (squareLow g f x) (knotOf g (f + 4) ⊖ knotOf g (f + 1))
+riseLow g a x = portionOf three32 (squareLow g a x) (knotOf g (a + 1) ⊖ knotOf g (a - 2))
 
 abbrev pub riseMiddle : Grid → ℕ → Float → Float
-riseMiddle g f x = portionOf three32 (squareMiddle g f x) (knotOf g (f + 5) ⊖ knotOf g (f + 2))
+riseMiddle g a x = portionOf three32 (squareMiddle g a x) (knotOf g (a + 2) ⊖ knotOf g (a - 1))
 
 abbrev pub riseHigh : Grid → ℕ → Float → Float
-riseHigh g f x = portionOf three32 (squareHigh g f x) (knotOf g (f + 6) ⊖ knotOf g (f + 3))
+riseHigh g a x = portionOf three32 (squareHigh g a x) (knotOf g (a + 3) ⊖ knotOf g a)
 
 -- ---- four neighbouring numbers, from index f on
 pub record Neighbours (f : ℕ) (a b c d : Float) (r : Four) : Type 0 where
@@ -76,17 +77,28 @@ pub record Neighbours (f : ℕ) (a b c d : Float) (r : Four) : Type 0 where
   pub third : r .third ≡ c
   pub fourth : r .fourth ≡ d
 
--- those of F
-abbrev pub Reads : (ℕ → Float) → ℕ → Four → Type 0
-Reads F f r = Neighbours f (F f) (F (f + 1)) (F (f + 2)) (F (f + 3)) r
-
 abbrev pub CubesAt : Grid → Float → ℕ → Four → Type 0
-CubesAt g x f r = Neighbours f (cubeFirst g f x) (cubeSecond g f x) (cubeThird g f x) (cubeFourth g f x) r
+CubesAt g x a r = Neighbours (a - 3) (cubeFirst g a x) (cubeSecond g a x) (cubeThird g a x) (cubeFourth g a x) r
 
 abbrev pub RisesAt : Grid → Float → ℕ → Four → Type 0
-RisesAt g x f r =
-    Neighbours f (zero32 ⊖ riseLow g f x) (riseLow g f x ⊖ riseMiddle g f x) (riseMiddle g f x ⊖ riseHigh g f x)
-    (riseHigh g f x ⊖ zero32) r
+RisesAt g x a r =
+    Neighbours (a - 3) (zero32 ⊖ riseLow g a x) (riseLow g a x ⊖ riseMiddle g a x) (riseMiddle g a x ⊖ riseHigh g a x)
+    (riseHigh g a x ⊖ zero32) r
+
+-- near the ends of the knots fewer than four have a basis function: these are moved n places down, or up, and zeros follow
+unfoldable pub downBy : ℕ → Four → Four
+downBy zero r = r
+downBy (suc n) r =
+    downBy n (record { start = r .start; first = r .second; second = r .third; third = r .fourth; fourth = zero32 })
+
+unfoldable pub upBy : ℕ → Four → Four
+upBy zero r = r
+upBy (suc n) r =
+    upBy n (record { start = r .start - 1; first = zero32; second = r .first; third = r .second; fourth = r .third })
+
+-- the four for an x from knot a up to knot a + 1, at indices that the grid has
+abbrev pub placedOf : ℕ → ℕ → Four → Four
+placedOf g a r = upBy (a - (g + 2)) (downBy (3 - a) r)
 
 -- they stand for F's numbers below n: the four, a zero's sign left open, and zeros at every other index
 pub record Covers (n : ℕ) (F : ℕ → Float) (r : Four) : Type 0 where

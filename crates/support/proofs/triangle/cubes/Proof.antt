@@ -1,44 +1,43 @@
 -- `support::cubes` meets its contract. Assumes nothing.
 use mathlib.Core.Path.{_≡_, refl}
+use Prim.Native.Nat.{_-_}
 use borrow.Author.Needs.{needs}
 use Rattle.floats.specs.Binary32.{_⊕_}
+use Rattle.spline.specs.Spline.{knotOf}
 use Rattle.support.specs.Support.{linearLow, linearHigh, squareLow, squareMiddle, squareHigh, cubeFirst, cubeSecond, cubeThird}
 use Rattle.support.specs.Support.{cubeFourth}
 use Rattle.support.proofs.triangle.cubes.Statement.{statement}
 use Rattle.support.proofs.triangle.cubes.Tie as tie
 
-add-knot-at : tie.Need-add-knot-at
-add-knot-at c = search needs
+less-requires : tie.Need-less-requires
+less-requires c κs = search needs
 
 knot-at-requires : tie.Need-knot-at-requires
 knot-at-requires c κs = search needs
 
-add-knot-at-2 : tie.Need-add-knot-at-2
-add-knot-at-2 c = search needs
+less-requires-2 : tie.Need-less-requires-2
+less-requires-2 c κs = search needs
 
 knot-at-requires-2 : tie.Need-knot-at-requires-2
 knot-at-requires-2 c κs = search needs
 
-add-knot-at-3 : tie.Need-add-knot-at-3
-add-knot-at-3 c = search needs
-
 knot-at-requires-3 : tie.Need-knot-at-requires-3
 knot-at-requires-3 c κs = search needs
 
-add-knot-at-4 : tie.Need-add-knot-at-4
-add-knot-at-4 c = search needs
+add-knot-at : tie.Need-add-knot-at
+add-knot-at c = search needs
 
 knot-at-requires-4 : tie.Need-knot-at-requires-4
 knot-at-requires-4 c κs = search needs
 
-add-knot-at-5 : tie.Need-add-knot-at-5
-add-knot-at-5 c = search needs
+add-knot-at-2 : tie.Need-add-knot-at-2
+add-knot-at-2 c = search needs
 
 knot-at-requires-5 : tie.Need-knot-at-requires-5
 knot-at-requires-5 c κs = search needs
 
-add-knot-at-6 : tie.Need-add-knot-at-6
-add-knot-at-6 c = search needs
+add-knot-at-3 : tie.Need-add-knot-at-3
+add-knot-at-3 c = search needs
 
 knot-at-requires-6 : tie.Need-knot-at-requires-6
 knot-at-requires-6 c κs = search needs
@@ -79,10 +78,14 @@ portion-requires-11 c κs = search needs
 portion-requires-12 : tie.Need-portion-requires-12
 portion-requires-12 c κs = search needs
 
+less-requires-3 : tie.Need-less-requires-3
+less-requires-3 c κs = search needs
+
 returns : tie.Need-returns
 unfolding squareLow squareMiddle squareHigh cubeFirst cubeSecond cubeThird cubeFourth
 returns c =
-    let at-portion11 = c .before in
+    let at-portion12 = c .before in
+    let at-portion11 = at-portion12 .before in
     let at-portion10 = at-portion11 .before in
     let at-portion9 = at-portion10 .before in
     let at-portion8 = at-portion9 .before in
@@ -98,47 +101,48 @@ returns c =
     let at-knot-at4 = at-knot-at5 .before in
     let at-knot-at3 = at-knot-at4 .before in
     let at-knot-at2 = at-knot-at3 .before in
-    let at-knot-at = at-knot-at2 .before in
-    let start = at-knot-at .before in
+    let at-less2 = at-knot-at2 .before in
+    let at-knot-at = at-less2 .before in
+    let at-less = at-knot-at .before in
+    let start = at-less .before in
     let a = start .args in
-    let k1 = at-knot-at .knot-at .ensures in
-    let k2 = at-knot-at2 .knot-at2 .ensures in
+    let k1 : at-knot-at .knot-at .result ≡ knotOf (a .grid) (a .at - 2) = rw (at-knot-at .knot-at .ensures, at-less .less .ensures) in
+    let k2 : at-knot-at2 .knot-at2 .result ≡ knotOf (a .grid) (a .at - 1) = rw (at-knot-at2 .knot-at2 .ensures, at-less2 .less2 .ensures) in
     let k3 = at-knot-at3 .knot-at3 .ensures in
     let k4 = at-knot-at4 .knot-at4 .ensures in
     let k5 = at-knot-at5 .knot-at5 .ensures in
     let k6 = at-knot-at6 .knot-at6 .ensures in
-    let linear-low : at-portion .portion .result ≡ linearLow (a .grid) (a .first) (a .x) = rw (at-portion .portion .ensures, k4, k3) in
-    let linear-high : at-portion2 .portion2 .result ≡ linearHigh (a .grid) (a .first) (a .x) = rw
+    let linear-low : at-portion .portion .result ≡ linearLow (a .grid) (a .at) (a .x) = rw (at-portion .portion .ensures, k4, k3) in
+    let linear-high : at-portion2 .portion2 .result ≡ linearHigh (a .grid) (a .at) (a .x) = rw
     (at-portion2 .portion2 .ensures, k4, k3) in
-    let low : at-portion3 .portion3 .result ≡ squareLow (a .grid) (a .first) (a .x) = rw
+    let low : at-portion3 .portion3 .result ≡ squareLow (a .grid) (a .at) (a .x) = rw
     (at-portion3 .portion3 .ensures, linear-low, k4, k2) in
-    let middle : at-portion4 .portion4 .result ⊕ at-portion5 .portion5 .result ≡ squareMiddle (a .grid) (a .first) (a .x) =
+    let middle : at-portion4 .portion4 .result ⊕ at-portion5 .portion5 .result ≡ squareMiddle (a .grid) (a .at) (a .x) =
     rw (at-portion4 .portion4 .ensures, at-portion5 .portion5 .ensures, linear-low, linear-high, k2, k4, k5, k3) in
-    let high : at-portion6 .portion6 .result ≡ squareHigh (a .grid) (a .first) (a .x) = rw
+    let high : at-portion6 .portion6 .result ≡ squareHigh (a .grid) (a .at) (a .x) = rw
     (at-portion6 .portion6 .ensures, linear-high, k5, k3) in
     record {
-      start = refl;
+      start = c .less3 .ensures;
       first = rw (at-portion7 .portion7 .ensures, low, k4, k1);
       second = rw (at-portion8 .portion8 .ensures, at-portion9 .portion9 .ensures, low, middle, k1, k4, k5, k2);
       third = rw (at-portion10 .portion10 .ensures, at-portion11 .portion11 .ensures, middle, high, k2, k5, k6, k3);
-      fourth = rw (c .portion12 .ensures, high, k3, k6);
+      fourth = rw (at-portion12 .portion12 .ensures, high, k3, k6);
     }
 
 pub cubes-spec : {M : Type 1} → statement M
 cubes-spec =
     tie.close
     (tie.spec
-    add-knot-at
+    less-requires
     knot-at-requires
-    add-knot-at-2
+    less-requires-2
     knot-at-requires-2
-    add-knot-at-3
     knot-at-requires-3
-    add-knot-at-4
+    add-knot-at
     knot-at-requires-4
-    add-knot-at-5
+    add-knot-at-2
     knot-at-requires-5
-    add-knot-at-6
+    add-knot-at-3
     knot-at-requires-6
     portion-requires
     portion-requires-2
@@ -152,4 +156,5 @@ cubes-spec =
     portion-requires-10
     portion-requires-11
     portion-requires-12
+    less-requires-3
     returns)

@@ -1,7 +1,7 @@
--- A batch row by row: one row more is added, and a test of all rows is a test of each. Assumes nothing.
-use mathlib.Core.Path.{_≡_, refl, sym, ap, _∙_}
-use mathlib.Core.Bool.{Bool, true, false, false≢true}
-use mathlib.Core.List.{List, [], _++_, append-nil}
+-- A batch row by row: where a row begins, and one row more is added. Assumes nothing.
+use mathlib.Core.Path.{_≡_, sym, ap, _∙_}
+use mathlib.Core.Bool.{Bool}
+use mathlib.Core.List.{List, [], append-nil}
 use Prim.Native.Nat.{ℕ, _+_, _-_, _*_, _≤_, _<_}
 use native.Mathlib.Nat.{le-of-lt}
 use native.Mathlib.Numerals.{add-one}
@@ -10,24 +10,18 @@ use lib.ListN.{length, drop}
 use lib.Seq.{drop-drop, drop-length}
 use lib.Ieee.{Float, nan}
 use Rattle.floats.specs.Binary32.{_⊕_}
-use Rattle.floats.specs.Sums.{sumFrom, tabulate, allTo, at}
-use Rattle.floats.proofs.Loops.{tab-length, tab-ext, tab-get, tab-self, all-stop}
+use Rattle.floats.specs.Sums.{sumFrom, tabulate, at}
+use Rattle.floats.proofs.Loops.{tab-length, tab-ext, tab-get, tab-self}
 use Rattle.layers.specs.Basis.{Basis}
 use Rattle.layers.specs.Widths.{widthAt, widthsTo}
 use Rattle.rows.specs.Batch.{rowsIn, rowAt}
 use Rattle.rows.proofs.Batches.{row-begins}
 use Rattle.gradients.specs.Gradient.{rowGradient}
+use Rattle.swift_additions.specs.Adding.{Clean}
+use Rattle.swift_additions.proofs.Clean.{row-held, clean-plus}
 use Rattle.descent.specs.Accumulate.{cellOf, gatheredAt, gathered}
 use Rattle.gradients.specs.Steps.{plusAt, plusOf}
 use Rattle.descent.specs.Steps.{Forwarded}
-
--- what all rows pass, each row passes
-pub all-at : (p : ℕ → Bool) (n i : ℕ) → allTo p n ≡ true → i < n → p i ≡ true
-all-at p n i e h = go (p i) refl
-  where
-    go : (b : Bool) → p i ≡ b → b ≡ true
-    go true q = refl
-    go false q = absurd (false≢true (sym (all-stop p i n h q) ∙ e))
 
 -- row r begins within the batch, where there are `count` rows
 pub row-starts : (n w r count : ℕ) → 0 < w → count ≡ rowsIn n w → r < count → r * w ≤ n
@@ -40,6 +34,11 @@ further {B} {ps} {ws} {xs} {W} {W′} f =
     let n = widthsTo ws (length ws) in
     let two : 2 * n ≡ n + n = omega arith in
     rw two (sym (drop-drop n n W′) ∙ ap (drop n) (f .rest) ∙ drop-drop n n W)
+
+-- a row added to gradients that are never -0.0 leaves them so
+pub row-clean : (n : ℕ) (B : Basis) (ps : List Float) (ws : List ℕ) (xs ts : List Float) (scale : Float) (ds e : List Float)
+    → e ≡ plusOf ds (rowGradient B ps ws xs ts scale) → Clean n ds → Clean n e
+row-clean n B ps ws xs ts scale ds e p c = rw p (clean-plus n ds (rowGradient B ps ws xs ts scale) (row-held B ps ws xs ts scale) c)
 
 module _ (B : Basis) (ps : List Float) (ws : List ℕ) (xs ts : List Float) (v : ℕ) (scale : Float) (gs : List Float) where
   pub gathered-none : gs ≡ gathered B ps ws xs ts v scale gs 0

@@ -1,6 +1,5 @@
 pub mod Checked
 pub mod Gathered
-pub mod Places
 pub mod Slots
 pub mod Spans
 pub mod Ups

@@ -8,20 +8,21 @@ use lib.ListN.{length, take, drop, length-append}
 use lib.Ieee.{Float}
 use borrow.Rule.Slice.PartMut.{putMid}
 use Rattle.floats.specs.Sums.{flatTo}
-use Rattle.floats.proofs.Loops.{tab-length}
+use Rattle.floats.proofs.Loops.{tab-length, rest}
+use Rattle.floats.proofs.Places.{part-is, part-length}
 use Rattle.spline.specs.declared.Grid.{Grid}
 use Rattle.layers.specs.Basis.{Basis, basisOf}
 use Rattle.layers.specs.Widths.{widthAt, layerSize, paramsTo, widthsTo}
 use Rattle.layers.proofs.Widths.{params-more}
-use Rattle.rows.specs.Pass.{nodesOf}
-use Rattle.rows.proofs.Passes as passes
+use Rattle.rows.proofs.Passes.{nodes-length}
 use Rattle.gradients.specs.Gradient.{layerSlots, upsOf, rowSlots, rowGradient}
 use Rattle.gradients.specs.Steps.{plusOf}
-use Rattle.descent.specs.Steps.{partAt, Nodes, upAt, Ups, slotsIn}
+use Rattle.descent.specs.Steps.{Nodes, upAt, Ups, slotsIn}
 use Rattle.gradients.proofs.Adding.{flat-ext, plus-part}
 use Rattle.gradients.proofs.Edges.{layer-length}
-use Rattle.descent.proofs.Places.{part-is, part-length}
-use Rattle.descent.proofs.Spans.{Stand, widths-more, widths-room}
+use Rattle.swift_additions.specs.Adding.{Clean}
+use Rattle.swift_additions.proofs.Clean.{flat-held, layer-held, clean-plus, clean-part}
+use Rattle.descent.proofs.Spans.{Stand, reach, widths-more, widths-room}
 use Rattle.descent.proofs.Ups.{back-length}
 
 -- parts as long as the layers are as long together as the layers
@@ -56,6 +57,17 @@ module _ (g : Grid) (ps : List Float) (ws : List ℕ) (W : List Float) where
       z ∙ rw (part-is W from (widthAt ws l), part-is W (half + (from + widthAt ws l)) (widthAt ws (l + 1)), next, m, s .part, s .place) in
       rw (add-one l) (plus-part ds (flatTo slots l) (slots l) at e y r long i cells)
 
+  -- what such a turn lends is never -0.0, where the gradients were not
+  pub part-clean : (l at from : ℕ) (ds e : List Float) → l < length ws - 1 → Stand g ps ws W l at from → length ds ≡ length ps
+      → e ≡ plusOf ds (flatTo (slotsIn (basisOf g) ps ws W) l) → Clean (length ds) ds
+      → Clean (layerSize (g .intervals + 5) ws l) (take (length e - at) (drop at e))
+  part-clean l at from ds e h s same p c =
+      let slots = slotsIn (basisOf g) ps ws W in
+      let held = flat-held slots (λ j. layer-held (basisOf g) _ _ _) l in
+      let more : Clean (length ds) e = rw p (clean-plus (length ds) ds (flatTo slots l) held c) in
+      let inside : at + layerSize (g .intervals + 5) ws l ≤ length ds = omega (arith, reach h s) in
+      rw (rest at e) (clean-part at (layerSize (g .intervals + 5) ws l) (length ds) e inside more)
+
 -- ---- by the definition
 module _ (B : Basis) (ps : List Float) (ws : List ℕ) (xs ts : List Float) (scale : Float) where
   -- values and gradients in their places make the row's gradient
@@ -67,18 +79,13 @@ module _ (B : Basis) (ps : List Float) (ws : List ℕ) (xs ts : List Float) (sca
       (λ l h. rw (nodes l (omega arith), ups (l + 1) (omega arith) (omega arith), add-one l))
 
   module _ (wide : length xs ≡ widthAt ws 0) where
-    nodes-length : (l : ℕ) → length (nodesOf B ps ws xs l) ≡ widthAt ws l
-    unfolding nodesOf
-    nodes-length zero = wide
-    nodes-length (suc l) = passes.layer-length B _ _ _
-
     pub ups-length : (l k : ℕ) → length (upsOf B ps ws xs ts scale l k) ≡ widthAt ws l
     unfolding upsOf
     ups-length l zero = tab-length _ _
-    ups-length l (suc k) = back-length B _ _ _ ∙ nodes-length l
+    ups-length l (suc k) = back-length B _ _ _ ∙ nodes-length B ps ws xs wide l
 
     pub row-length : length (rowGradient B ps ws xs ts scale) ≡ paramsTo (B .stride) ws (length ws - 1)
     unfolding rowGradient
     row-length =
         flat-params (B .stride) ws (rowSlots B ps ws xs ts scale (length ws - 1)) (length ws - 1)
-        (λ l h. layer-length B _ _ _ ∙ rw (nodes-length l, ups-length (suc l) (length ws - 1 - suc l), add-one l))
+        (λ l h. layer-length B _ _ _ ∙ rw (nodes-length B ps ws xs wide l, ups-length (suc l) (length ws - 1 - suc l), add-one l))

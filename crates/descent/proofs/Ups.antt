@@ -8,16 +8,17 @@ use native.Mathlib.Numerals.{add-one}
 use native.Mathlib.Omega.{arith}
 use lib.ListN.{length, take, drop}
 use lib.Ieee.{Float}
+use Rattle.floats.specs.Places.{partAt, writtenAt}
 use Rattle.floats.specs.Sums.{tabulate}
 use Rattle.floats.proofs.Loops.{tab-length}
+use Rattle.floats.proofs.Places.{part-length, written-length, written-there, written-before, written-after}
 use Rattle.spline.specs.declared.Grid.{Grid}
 use Rattle.layers.specs.Basis.{Basis, basisOf}
 use Rattle.layers.specs.Widths.{widthAt, layerSize, paramsTo, widthsTo}
 use Rattle.layers.proofs.Widths.{params-more}
 use Rattle.gradients.specs.Gradient.{backLayer, outputGradient, upsOf}
 use Rattle.descent.specs.Calls.{Fits}
-use Rattle.descent.specs.Steps.{partAt, writtenAt, Nodes, upAt, Ups, Backed}
-use Rattle.descent.proofs.Places.{part-length, written-length, written-there, written-before, written-after}
+use Rattle.descent.specs.Steps.{Nodes, upAt, Ups, Backed}
 use Rattle.descent.proofs.Spans.{Stand, Behind, refit, behind, first-width, last-width, widths-more, widths-room}
 
 pub back-length : (B : Basis) (ps xs us : List Float) → length (backLayer B ps xs us) ≡ length xs

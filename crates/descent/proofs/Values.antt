@@ -10,8 +10,10 @@ use native.Mathlib.Omega.{arith}
 use lib.ListN.{length, take, drop}
 use lib.Seq.{take-at}
 use lib.Ieee.{Float}
+use Rattle.floats.specs.Places.{partAt, writtenAt}
 use Rattle.floats.specs.Sums.{allTo, allFinite}
 use Rattle.floats.proofs.Loops.{all-none, all-more, all-stop}
+use Rattle.floats.proofs.Places.{part-is, written-length, written-there, written-before, written-after, written-front}
 use Rattle.spline.specs.declared.Grid.{Grid}
 use Rattle.layers.specs.Basis.{Basis, basisOf}
 use Rattle.layers.specs.Widths.{widthAt, layerSize, widthsTo}
@@ -19,8 +21,7 @@ use Rattle.layers.specs.Layer.{layerOf}
 use Rattle.rows.specs.Pass.{nodesOf, finiteAfter, nodesFinite}
 use Rattle.rows.proofs.Passes.{layer-length}
 use Rattle.descent.specs.Calls.{Fits}
-use Rattle.descent.specs.Steps.{partAt, writtenAt, Nodes, Forwarded}
-use Rattle.descent.proofs.Places.{part-is, written-length, written-there, written-before, written-after, written-front}
+use Rattle.descent.specs.Steps.{Nodes, Forwarded}
 use Rattle.descent.proofs.Spans.{Stand, set-out, refit, go-on, reach, first-width, widths-more, widths-room}
 
 -- after l layers, from the work W₀

@@ -1,33 +1,16 @@
 -- What the steps of a row and of a batch promise and ask; no part of the meaning. Definitions only.
-use Prim.Native.Nat.{ℕ, _+_, _-_, _*_, _≤_, _<_}
+use Prim.Native.Nat.{ℕ, _+_, _-_, _≤_, _<_}
 use mathlib.Core.Path.{_≡_}
 use mathlib.Core.Bool.{Bool, true}
-use mathlib.Core.List.{List, _++_}
-use lib.ListN.{length, take, drop}
+use mathlib.Core.List.{List}
+use lib.ListN.{length, drop}
 use lib.Ieee.{Float}
-use Rattle.spline.specs.declared.Grid.{Grid}
+use Rattle.floats.specs.Places.{partAt}
 use Rattle.layers.specs.Basis.{Basis}
 use Rattle.layers.specs.Widths.{widthAt, paramsTo, widthsTo}
 use Rattle.rows.specs.Pass.{nodesOf, nodesFinite}
 use Rattle.gradients.specs.Gradient.{layerSlots, upsOf}
 use Rattle.descent.specs.Calls.{twoN}
-
--- ---- places
--- n numbers from place a on
-abbrev pub partAt : List Float → ℕ → ℕ → List Float
-partAt W a n = take n (drop a W)
-
--- the list with ys written from place a on
-unfoldable pub writtenAt : List Float → ℕ → List Float → List Float
-writtenAt W a ys = take a W ++ (ys ++ drop (a + length ys) W)
-
--- a layer of w inputs and n outputs: w numbers at `from`, before those from `to` up to `end`
-pub record Within (g : Grid) (ps W : List Float) (from w to n end : ℕ) : Type 0 where
-  pub grid : g .intervals ≤ 250000
-  pub some : 0 < n
-  pub before : from + w ≤ to
-  pub room : end ≤ length W
-  pub params : n * (w * (g .intervals + 5)) ≤ length ps
 
 -- ---- a row in the work: the node values from 0 on, their gradients from N on, each layer's after those of the one before
 abbrev pub Nodes : Basis → List Float → List ℕ → List Float → List Float → ℕ → Type 0

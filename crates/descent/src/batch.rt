@@ -3,8 +3,11 @@
 ghost use mathlib.Core.Path.{_≡_};
 ghost use mathlib.Core.Bool.{true};
 ghost use lib.ListN.{length};
+ghost use Rattle.exponential.specs.Steps.{Powers};
+ghost use Rattle.support.specs.Support.{Finite};
 ghost use Rattle.layers.specs.Basis.{basisOf, Basis};
 ghost use Rattle.layers.specs.Widths.{inputWidth, outputWidth};
+ghost use Rattle.swift_additions.specs.Adding.{Clean};
 ghost use Rattle.descent.specs.Accumulate.{allPass, gathered};
 ghost use Rattle.descent.specs.Calls.{rowsOf, Full, Fits, Sound, Accumulated};
 ghost use Rattle.descent.specs.Steps.{Added, Tested};
@@ -13,9 +16,17 @@ use crate::row::forward;
 use spline::Grid;
 
 // Whether the nodes of every row are finite.
-fn all_pass(grid: Grid, widths: &[usize], model: &[f32], inputs: &[f32], work: &mut [f32]) -> bool
+fn all_pass(
+    grid: Grid,
+    table: &[u32; 256],
+    widths: &[usize],
+    model: &[f32],
+    inputs: &[f32],
+    work: &mut [f32],
+) -> bool
     requires { ⌜ Fits grid (now model) (now widths) (now work)
-        × Full (inputWidth (now widths)) (now inputs) (rowsOf (now widths) (now inputs)) ⌝ }
+        × Full (inputWidth (now widths)) (now inputs) (rowsOf (now widths) (now inputs))
+        × Powers (now table) × Finite (length (now model)) (now model) ⌝ }
     ensures { λ r. ⌜ Tested (allPass (basisOf grid) (now (model .entry)) (now (widths .entry)) (now (inputs .entry))
         (rowsOf (now (widths .entry)) (now (inputs .entry)))) r (now (widths .entry)) (now (work .entry)) (now (work .exit)) ⌝ }
 {
@@ -23,7 +34,7 @@ fn all_pass(grid: Grid, widths: &[usize], model: &[f32], inputs: &[f32], work: &
     let count = rows::rows_in(inputs.len(), w);
     for r in 0..count {
         let row = rows::row(inputs, w, r);
-        if !forward(grid, widths, model, row, work) {
+        if !forward(grid, table, widths, model, row, work) {
             return false;
         }
     }
@@ -33,6 +44,7 @@ fn all_pass(grid: Grid, widths: &[usize], model: &[f32], inputs: &[f32], work: &
 // Adds every row's gradients, row by row.
 fn add_rows(
     grid: Grid,
+    table: &[u32; 256],
     widths: &[usize],
     model: &[f32],
     inputs: &[f32],
@@ -43,7 +55,8 @@ fn add_rows(
 )
     requires { ⌜ Fits grid (now model) (now widths) (now work) × Sound (now widths) (now inputs) (now targets)
         × (length (now gradients) ≡ length (now model))
-        × (allPass (basisOf grid) (now model) (now widths) (now inputs) (rowsOf (now widths) (now inputs)) ≡ true) ⌝ }
+        × (allPass (basisOf grid) (now model) (now widths) (now inputs) (rowsOf (now widths) (now inputs)) ≡ true)
+        × Powers (now table) × Finite (length (now model)) (now model) × Clean (length (now gradients)) (now gradients) ⌝ }
     ensures { λ _. ⌜ Added (gathered (basisOf grid) (now (model .entry)) (now (widths .entry)) (now (inputs .entry))
         (now (targets .entry)) (outputWidth (now (widths .entry))) scale (now (gradients .entry))
         (rowsOf (now (widths .entry)) (now (inputs .entry))))
@@ -56,7 +69,17 @@ fn add_rows(
     for r in 0..count {
         let input = rows::row(inputs, w, r);
         let target = rows::row(targets, v, r);
-        add_row(grid, widths, model, input, target, scale, gradients, work);
+        add_row(
+            grid,
+            table,
+            widths,
+            model,
+            input,
+            target,
+            scale,
+            gradients,
+            work,
+        );
     }
 }
 
@@ -64,6 +87,7 @@ fn add_rows(
 // Answers whether they were added.
 pub fn accumulate(
     grid: Grid,
+    table: &[u32; 256],
     widths: &[usize],
     model: &[f32],
     inputs: &[f32],
@@ -73,12 +97,23 @@ pub fn accumulate(
     work: &mut [f32],
 ) -> bool
     requires { ⌜ Fits grid (now model) (now widths) (now work) × Sound (now widths) (now inputs) (now targets)
-        × (length (now gradients) ≡ length (now model)) ⌝ }
+        × (length (now gradients) ≡ length (now model))
+        × Powers (now table) × Finite (length (now model)) (now model) × Clean (length (now gradients)) (now gradients) ⌝ }
     ensures { λ r. ⌜ Accumulated (basisOf grid) (now (model .entry)) (now (widths .entry)) (now (inputs .entry))
         (now (targets .entry)) scale (now (gradients .entry)) (now (work .entry)) (now (gradients .exit)) (now (work .exit)) r ⌝ }
 {
-    if all_pass(grid, widths, model, inputs, work) {
-        add_rows(grid, widths, model, inputs, targets, scale, gradients, work);
+    if all_pass(grid, table, widths, model, inputs, work) {
+        add_rows(
+            grid,
+            table,
+            widths,
+            model,
+            inputs,
+            targets,
+            scale,
+            gradients,
+            work,
+        );
         return true;
     }
     false

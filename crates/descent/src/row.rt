@@ -4,15 +4,18 @@ ghost use mathlib.Core.Path.{_≡_};
 ghost use mathlib.Core.Bool.{true};
 ghost use Prim.Native.Nat.{_+_, _-_, _*_, _^_, _≤_, _<_};
 ghost use lib.ListN.{length, take};
+ghost use Rattle.floats.specs.Places.{partAt, writtenAt};
 ghost use Rattle.floats.specs.Sums.{tabulate, flatTo};
+ghost use Rattle.exponential.specs.Steps.{Powers};
+ghost use Rattle.support.specs.Support.{Finite};
 ghost use Rattle.layers.specs.Basis.{basisOf, Basis};
-ghost use Rattle.layers.specs.Layer.{nodeOf, layerOf};
 ghost use Rattle.layers.specs.Widths.{inputWidth, outputWidth, widthsTo};
 ghost use Rattle.rows.specs.Pass.{nodesFinite};
-ghost use Rattle.gradients.specs.Gradient.{backLayer, outputGradient, rowGradient};
-ghost use Rattle.descent.specs.Calls.{Fits};
+ghost use Rattle.gradients.specs.Gradient.{outputGradient, rowGradient};
 ghost use Rattle.gradients.specs.Steps.{plusOf};
-ghost use Rattle.descent.specs.Steps.{partAt, writtenAt, Within, Nodes, Forwarded, Backed, slotsIn, Added};
+ghost use Rattle.swift_additions.specs.Adding.{Clean};
+ghost use Rattle.descent.specs.Calls.{Fits};
+ghost use Rattle.descent.specs.Steps.{Nodes, Forwarded, Backed, slotsIn, Added};
 use spline::Grid;
 
 // N, the number of nodes.
@@ -27,48 +30,17 @@ fn node_count(widths: &[usize]) -> usize
     sum
 }
 
-// One output: its edges summed input by input.
-fn node(grid: Grid, params: &[f32], inputs: &[f32]) -> f32
-    requires { ⌜ (grid .intervals ≤ 250000) × (length (now inputs) * (grid .intervals + 5) ≤ length (now params)) ⌝ }
-    ensures { λ r. ⌜ r ≡ nodeOf (basisOf grid) (now (params .entry)) (now (inputs .entry)) ⌝ }
-{
-    let stride = grid.intervals + 5;
-    let mut sum: f32 = 0.0;
-    for j in 0..inputs.len() {
-        let at = j * stride;
-        let x = inputs[j];
-        sum = sum + layers::edge(grid, &params[at..], x, spline::silu(x));
-    }
-    sum
-}
-
-// A layer forward, from the w numbers at `from` to n numbers at `to`.
-fn layer_in(
-    grid: Grid,
-    params: &[f32],
-    work: &mut [f32],
-    from: usize,
-    w: usize,
-    to: usize,
-    n: usize,
-)
-    requires { ⌜ Within grid (now params) (now work) from w to n (to + n) ⌝ }
-    ensures { λ _. ⌜ now (work .exit) ≡ writtenAt (now (work .entry)) to
-        (layerOf (basisOf grid) (now (params .entry)) (partAt (now (work .entry)) from w) n) ⌝ }
-{
-    let row = w * (grid.intervals + 5);
-    let end = from + w;
-    for o in 0..n {
-        let at = o * row;
-        let place = to + o;
-        let value = node(grid, &params[at..], &work[from..end]);
-        work[place] = value;
-    }
-}
-
 // All layers forward, up to the first value that is not finite.
-pub fn forward(grid: Grid, widths: &[usize], model: &[f32], row: &[f32], work: &mut [f32]) -> bool
-    requires { ⌜ Fits grid (now model) (now widths) (now work) × (length (now row) ≡ inputWidth (now widths)) ⌝ }
+pub fn forward(
+    grid: Grid,
+    table: &[u32; 256],
+    widths: &[usize],
+    model: &[f32],
+    row: &[f32],
+    work: &mut [f32],
+) -> bool
+    requires { ⌜ Fits grid (now model) (now widths) (now work) × (length (now row) ≡ inputWidth (now widths))
+        × Powers (now table) × Finite (length (now model)) (now model) ⌝ }
     ensures { λ r. ⌜ Forwarded (basisOf grid) (now (model .entry)) (now (widths .entry)) (now (row .entry))
         (now (work .entry)) (now (work .exit)) r ⌝ }
 {
@@ -83,7 +55,7 @@ pub fn forward(grid: Grid, widths: &[usize], model: &[f32], row: &[f32], work: &
         let n = widths[next];
         let to = from + w;
         let end = to + n;
-        layer_in(grid, &model[at..], work, from, w, to, n);
+        swift_layers::layer_in(grid, table, &model[at..], work, from, w, to, n);
         if !floats::all_finite(&work[to..end]) {
             return false;
         }
@@ -107,40 +79,10 @@ fn output_gradients(work: &mut [f32], from: usize, to: usize, targets: &[f32], s
     }
 }
 
-// A layer backward: the gradients at its w inputs, which stand at `from`, are written at `to`; those at its n outputs stand
-// just after them.
-fn back_layer(
-    grid: Grid,
-    params: &[f32],
-    work: &mut [f32],
-    from: usize,
-    w: usize,
-    to: usize,
-    n: usize,
-)
-    requires { ⌜ Within grid (now params) (now work) from w to n (to + w + n) ⌝ }
-    ensures { λ _. ⌜ now (work .exit) ≡ writtenAt (now (work .entry)) to
-        (backLayer (basisOf grid) (now (params .entry)) (partAt (now (work .entry)) from w) (partAt (now (work .entry)) (to + w) n)) ⌝ }
-{
-    let end = from + w;
-    let ups = to + w;
-    let ups_end = ups + n;
-    for i in 0..w {
-        let place = to + i;
-        let gradient = gradients::input_gradient(
-            grid,
-            params,
-            &work[from..end],
-            &work[ups..ups_end],
-            i,
-        );
-        work[place] = gradient;
-    }
-}
-
 // All layers backward but the first, whose inputs' gradients nothing reads.
 fn backward(
     grid: Grid,
+    table: &[u32; 256],
     widths: &[usize],
     model: &[f32],
     targets: &[f32],
@@ -148,7 +90,8 @@ fn backward(
     work: &mut [f32],
 )
     requires { ⌜ Fits grid (now model) (now widths) (now work) × (length (now targets) ≡ outputWidth (now widths))
-        × Nodes (basisOf grid) (now model) (now widths) (take (inputWidth (now widths)) (now work)) (now work) (length (now widths)) ⌝ }
+        × Nodes (basisOf grid) (now model) (now widths) (take (inputWidth (now widths)) (now work)) (now work) (length (now widths))
+        × Powers (now table) × Finite (length (now model)) (now model) ⌝ }
     ensures { λ _. ⌜ Backed (basisOf grid) (now (model .entry)) (now (widths .entry))
         (take (inputWidth (now (widths .entry))) (now (work .entry))) (now (targets .entry)) scale
         (now (work .entry)) (now (work .exit)) ⌝ }
@@ -165,13 +108,21 @@ fn backward(
         let w = widths[l];
         from = from - w;
         at = at - n * (w * stride);
-        back_layer(grid, &model[at..], work, from, w, half + from, n);
+        swift_gradients::back_layer(grid, table, &model[at..], work, from, w, half + from, n);
     }
 }
 
 // Every layer's gradients, from the values and gradients at its nodes.
-fn add_layers(grid: Grid, widths: &[usize], model: &[f32], work: &[f32], gradients: &mut [f32])
-    requires { ⌜ Fits grid (now model) (now widths) (now work) × (length (now gradients) ≡ length (now model)) ⌝ }
+fn add_layers(
+    grid: Grid,
+    table: &[u32; 256],
+    widths: &[usize],
+    model: &[f32],
+    work: &[f32],
+    gradients: &mut [f32],
+)
+    requires { ⌜ Fits grid (now model) (now widths) (now work) × (length (now gradients) ≡ length (now model))
+        × Powers (now table) × Finite (length (now model)) (now model) × Clean (length (now gradients)) (now gradients) ⌝ }
     ensures { λ _. ⌜ now (gradients .exit) ≡ plusOf (now (gradients .entry))
         (flatTo (slotsIn (basisOf grid) (now (model .entry)) (now (widths .entry)) (now (work .entry)))
         (length (now (widths .entry)) - 1)) ⌝ }
@@ -188,8 +139,9 @@ fn add_layers(grid: Grid, widths: &[usize], model: &[f32], work: &[f32], gradien
         let to = from + w;
         let ups = half + to;
         let end = ups + n;
-        gradients::add_layer(
+        swift_additions::add_layer(
             grid,
+            table,
             &model[at..],
             &work[from..to],
             &work[ups..end],
@@ -203,6 +155,7 @@ fn add_layers(grid: Grid, widths: &[usize], model: &[f32], work: &[f32], gradien
 // Adds the gradients of a row whose nodes are finite.
 pub fn add_row(
     grid: Grid,
+    table: &[u32; 256],
     widths: &[usize],
     model: &[f32],
     row: &[f32],
@@ -213,12 +166,13 @@ pub fn add_row(
 )
     requires { ⌜ Fits grid (now model) (now widths) (now work) × (length (now gradients) ≡ length (now model))
         × (length (now row) ≡ inputWidth (now widths)) × (length (now targets) ≡ outputWidth (now widths))
-        × (nodesFinite (basisOf grid) (now model) (now widths) (now row) ≡ true) ⌝ }
+        × (nodesFinite (basisOf grid) (now model) (now widths) (now row) ≡ true)
+        × Powers (now table) × Finite (length (now model)) (now model) × Clean (length (now gradients)) (now gradients) ⌝ }
     ensures { λ _. ⌜ Added (plusOf (now (gradients .entry))
         (rowGradient (basisOf grid) (now (model .entry)) (now (widths .entry)) (now (row .entry)) (now (targets .entry)) scale))
         (now (gradients .exit)) (now (widths .entry)) (now (work .entry)) (now (work .exit)) ⌝ }
 {
-    forward(grid, widths, model, row, work);
-    backward(grid, widths, model, targets, scale, work);
-    add_layers(grid, widths, model, work, gradients);
+    forward(grid, table, widths, model, row, work);
+    backward(grid, table, widths, model, targets, scale, work);
+    add_layers(grid, table, widths, model, work, gradients);
 }

@@ -52,7 +52,7 @@ pub fn input_gradient(grid: Grid, params: &[f32], inputs: &[f32], ups: &[f32], i
 }
 
 // Adds a row's part to the gradients of an edge's coefficients, where u is what comes from above times the spline weight.
-fn add_coefficients(grid: Grid, u: f32, x: f32, gradients: &mut [f32])
+pub fn add_coefficients(grid: Grid, u: f32, x: f32, gradients: &mut [f32])
     requires { ⌜ (grid .intervals ≤ 250000) × (grid .intervals + 3 ≤ length (now gradients)) ⌝ }
     ensures { λ _. ⌜ now (gradients .exit)
         ≡ plusOf (now (gradients .entry)) (tabulate (weighted (basisOf grid) u x) (grid .intervals + 3)) ⌝ }

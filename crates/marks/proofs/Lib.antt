@@ -1,3 +1,4 @@
 pub mod Marking
+pub mod Fours
 pub mod Layers
 pub mod Rows

@@ -3,10 +3,13 @@ use Prim.Native.Nat.{ℕ, _+_, _-_, _*_, _≤_, _<_}
 use mathlib.Core.Path.{_≡_}
 use mathlib.Core.Bool.{Bool, true, cond}
 use mathlib.Core.List.{List, [], _∷_}
-use lib.ListN.{length}
-use lib.Ieee.{Float}
+use lib.ListN.{length, getD, set}
+use lib.Ieee.{Float, ne}
+use Rattle.floats.specs.Binary32.{zero32}
 use Rattle.spline.specs.declared.Grid.{Grid}
-use Rattle.support.specs.Support.{Finite}
+use Rattle.spline.specs.Spline.{widthOf}
+use Rattle.support.specs.declared.Four.{Four}
+use Rattle.support.specs.Support.{calmOf, Finite}
 use Rattle.layers.specs.Basis.{Basis}
 use Rattle.layers.specs.Widths.{paramsTo}
 use Rattle.rows.specs.Turns.{Fits, Layered, Ran}
@@ -17,6 +20,22 @@ unfoldable pub markedBy : List Bool → List ℕ → List ℕ
 markedBy [] ms = ms
 markedBy (b ∷ bs) [] = []
 markedBy (b ∷ bs) (m ∷ ms) = cond b 1 m ∷ markedBy bs ms
+
+-- byte k becomes 1 where a number of the basis is not zero
+unfoldable pub markAt : ℕ → Float → List ℕ → List ℕ
+markAt k y ms = set ms k (cond (ne y zero32) 1 (getD ms k 0))
+
+-- the four bytes of four neighbouring numbers
+abbrev pub fourMarked : Four → List ℕ → List ℕ
+fourMarked r ms =
+    markAt (r .start + 3) (r .fourth) (markAt (r .start + 2) (r .third)
+    (markAt (r .start + 1) (r .second) (markAt (r .start) (r .first) ms)))
+
+-- what all edges share: whether the knots' span is finite, and the width
+pub record Known (g : Grid) (calm : Bool) (width : Float) : Type 0 where
+  pub grid : g .intervals ≤ 250000
+  pub span : calm ≡ calmOf g
+  pub wide : width ≡ widthOf g
 
 -- a layer's bytes are there, and the numbers that it reads in either slice
 pub record Held (g : Grid) (w n : ℕ) (a b : List Float) (ms : List ℕ) : Type 0 where

@@ -1,4 +1,5 @@
 // Inner crate: which parameters a row touches (specs/), and the marks of one row in a map of one byte per parameter.
+mod coefficients;
 mod layer;
 mod row;
 

@@ -2,6 +2,7 @@
 ghost use mathlib.Core.Path.{_≡_};
 ghost use Prim.Native.Nat.{_+_, _*_, _≤_, _<_};
 ghost use lib.ListN.{length, take};
+ghost use Rattle.exponential.specs.Steps.{Powers};
 ghost use Rattle.layers.specs.Basis.{basisOf, Basis};
 ghost use Rattle.layers.specs.Widths.{widthAt};
 ghost use Rattle.rows.specs.Turns.{holder};
@@ -34,27 +35,27 @@ fn mark_held(
 // All layers, up to the first value that is not finite.
 fn mark_layers(
     grid: Grid,
+    table: &[u32; 256],
     widths: &[usize],
     model: &[f32],
     first: &mut [f32],
     second: &mut [f32],
     map: &mut [u8],
 ) -> bool
-    requires { ⌜ Marks grid (now model) (now widths) (now first) (now second) (now map) ⌝ }
+    requires { ⌜ Marks grid (now model) (now widths) (now first) (now second) (now map) × Powers (now table) ⌝ }
     ensures { λ r. ⌜ LayersMarked (basisOf grid) (now (model .entry)) (now (widths .entry))
         (take (widthAt (now (widths .entry)) 0) (now (second .entry))) (now (first .entry)) (now (second .entry))
         (now (map .entry)) r (now (first .exit)) (now (second .exit)) (now (map .exit)) ⌝ }
 {
     let layers = widths.len() - 1;
     let stride = grid.intervals + 5;
-    let table = exponential::scaled_powers();
     let mut at: usize = 0;
     for l in 0..layers {
         let w = widths[l];
         let next = l + 1;
         let n = widths[next];
         mark_held(grid, l, w, n, first, second, &mut map[at..]);
-        if !rows::turn(grid, &table, &model[at..], l, w, n, first, second) {
+        if !rows::turn(grid, table, &model[at..], l, w, n, first, second) {
             return false;
         }
         at = at + n * (w * stride);
@@ -65,6 +66,7 @@ fn mark_layers(
 // The row's refusal (14, 15, 20) or 0. A refused row may leave marks of its first layers: the map is blank then anyway.
 pub fn mark_row(
     grid: Grid,
+    table: &[u32; 256],
     widths: &[usize],
     model: &[f32],
     row: &[f32],
@@ -72,7 +74,7 @@ pub fn mark_row(
     second: &mut [f32],
     map: &mut [u8],
 ) -> u32
-    requires { ⌜ Marks grid (now model) (now widths) (now first) (now second) (now map) ⌝ }
+    requires { ⌜ Marks grid (now model) (now widths) (now first) (now second) (now map) × Powers (now table) ⌝ }
     ensures { λ r. ⌜ RowMarked (basisOf grid) (now (model .entry)) (now (widths .entry)) (now (row .entry))
         (now (first .entry)) (now (second .entry)) (now (map .entry)) r (now (first .exit)) (now (second .exit))
         (now (map .exit)) ⌝ }
@@ -82,7 +84,7 @@ pub fn mark_row(
         return fault;
     }
     floats::copy(row, second);
-    if mark_layers(grid, widths, model, first, second, map) {
+    if mark_layers(grid, table, widths, model, first, second, map) {
         0
     } else {
         20

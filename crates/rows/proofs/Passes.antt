@@ -18,10 +18,10 @@ use Rattle.spline.specs.declared.Grid.{Grid}
 use Rattle.support.specs.Support.{Finite}
 use Rattle.support.proofs.Dots.{finite-drop}
 use Rattle.layers.specs.Basis.{Basis, basisOf}
-use Rattle.layers.specs.Widths.{widthAt, layerSize, paramsTo}
+use Rattle.layers.specs.Widths.{widthAt, outputWidth, layerSize, paramsTo}
 use Rattle.layers.specs.Layer.{layerOf}
 use Rattle.layers.proofs.Widths.{params-none, params-more, params-room}
-use Rattle.rows.specs.Pass.{nodesOf, finiteAfter, nodesFinite, rowFault, rowRefusal}
+use Rattle.rows.specs.Pass.{nodesOf, outputsOf, finiteAfter, nodesFinite, rowFault, rowRefusal}
 use Rattle.rows.proofs.Batches.{wide-row}
 use Rattle.rows.specs.Turns.{holder, AtMost, Turns, Turned, Fits, Layered, Ran}
 
@@ -221,6 +221,15 @@ pub nodes-length : (B : Basis) (ps : List Float) (ws : List ℕ) (xs : List Floa
 unfolding nodesOf
 nodes-length B ps ws xs e zero = e
 nodes-length B ps ws xs e (suc l) = layer-length B (drop (paramsTo (B .stride) ws l) ps) (nodesOf B ps ws xs l) (widthAt ws (suc l))
+
+pub outputs-length : (B : Basis) (ps : List Float) (ws : List ℕ) (xs : List Float) → 2 ≤ length ws
+    → length (outputsOf B ps ws xs) ≡ outputWidth ws
+unfolding nodesOf
+outputs-length B ps ws xs h = go (length ws - 1) (omega arith)
+  where
+    go : (l : ℕ) → 1 ≤ l → length (nodesOf B ps ws xs l) ≡ widthAt ws l
+    go zero h = absurd (omega arith)
+    go (suc l) h = layer-length B (drop (paramsTo (B .stride) ws l) ps) (nodesOf B ps ws xs l) (widthAt ws (suc l))
 
 -- ---- a whole row
 -- a row with no fault is as wide as it must be

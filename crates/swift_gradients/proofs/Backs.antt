@@ -14,7 +14,7 @@ use Rattle.spline.specs.declared.Grid.{Grid}
 use Rattle.spline.specs.Spline.{slopeOf}
 use Rattle.spline.specs.Activation.{siluDerivativeOf}
 use Rattle.support.specs.declared.Four.{Four}
-use Rattle.support.specs.Support.{Slopes, fourDot, Finite}
+use Rattle.support.specs.Support.{Covers, Slopes, fourDot, Finite}
 use Rattle.support.proofs.Apart.{wide}
 use Rattle.support.proofs.Dots.{dot-four, shift-dot, finite-drop}
 use Rattle.layers.specs.Basis.{Basis, basisOf}
@@ -26,17 +26,21 @@ use Rattle.swift_layers.proofs.Edges.{edge-finite}
 use Rattle.gradients.specs.Gradient.{backOf, inputGradient}
 use Rattle.swift_gradients.specs.Swift.{backAt, backFour}
 
+-- the coefficients stand behind an edge's two weights
+pub curve-is : (n m : ℕ) (F : ℕ → Float) (ps : List Float) (r : Four) → 2 + n ≤ m → Covers n F r → Finite m ps
+    → fourDot ps (r .start + 2) r ≡ sumTo (λ (k : ℕ). at (drop 2 ps) k ⊗ F k) n
+curve-is n m F ps r h v p =
+    let q : r .start + 2 ≡ 2 + r .start = omega arith in
+    ap (λ (k : ℕ). fourDot ps k r) q ∙ shift-dot ps 2 (r .start) r ∙ dot-four n F (drop 2 ps) r v (finite-drop 2 n m ps p h)
+
 pub back-is : (g : Grid) (ps : List Float) (x s up : Float) (r : Four) → s ≡ siluDerivativeOf x → Slopes g x r
     → Finite (g .intervals + 5) ps
     → up ⊗ edgeFour ps s r ≡ backOf (basisOf g) ps x up
 unfolding backOf dotOf
 back-is g ps x s up r e v p =
-    let q : r .start + 2 ≡ 2 + r .start = omega arith in
-    let f = finite-drop 2 (g .intervals + 3) (g .intervals + 5) ps p (omega arith) in
     ap (λ (y : Float). up ⊗ ((at ps 0 ⊗ y) ⊕ (at ps 1 ⊗ fourDot ps (r .start + 2) r))) e
     ∙ ap (λ (y : Float). up ⊗ ((at ps 0 ⊗ siluDerivativeOf x) ⊕ (at ps 1 ⊗ y)))
-    (ap (λ (k : ℕ). fourDot ps k r) q ∙ shift-dot ps 2 (r .start) r
-    ∙ dot-four (g .intervals + 3) (λ (k : ℕ). slopeOf g k x) (drop 2 ps) r v f)
+    (curve-is (g .intervals + 3) (g .intervals + 5) (λ (k : ℕ). slopeOf g k x) ps r (omega arith) v p)
 
 -- the two ways to an edge
 pub edge-place : (ps : List Float) (o w i s : ℕ) → drop (i * s) (drop (o * (w * s)) ps) ≡ drop ((o * w + i) * s) ps

@@ -5,21 +5,28 @@ ghost use mathlib.Core.Bool.{true};
 ghost use Prim.Native.Nat.{_+_, _≤_};
 ghost use lib.ListN.{length};
 ghost use Rattle.exponential.specs.Steps.{Powers};
-ghost use Rattle.support.specs.Support.{calmOf};
+ghost use Rattle.support.specs.Support.{calmOf, fourDot};
 ghost use Rattle.layers.specs.Basis.{basisOf, Basis};
 ghost use Rattle.swift_layers.specs.Swift.{edgeFour, addedInput, Edges};
 use spline::Grid;
 use support::Four;
+
+// An edge's coefficients times the four.
+pub fn curve_by(params: &[f32], four: Four) -> f32
+    requires { ⌜ four .start + 6 ≤ length (now params) ⌝ }
+    ensures { λ r. ⌜ r ≡ fourDot (now (params .entry)) (four .start + 2) four ⌝ }
+{
+    let at = four.start + 2;
+    let low = 0.0 + params[at] * four.first + params[at + 1] * four.second;
+    low + params[at + 2] * four.third + params[at + 3] * four.fourth
+}
 
 // An edge from four values and SiLU; from four slopes and the rise of SiLU, its slope.
 pub fn edge_by(params: &[f32], silu: f32, four: Four) -> f32
     requires { ⌜ four .start + 6 ≤ length (now params) ⌝ }
     ensures { λ r. ⌜ r ≡ edgeFour (now (params .entry)) silu four ⌝ }
 {
-    let at = four.start + 2;
-    let low = 0.0 + params[at] * four.first + params[at + 1] * four.second;
-    let curve = low + params[at + 2] * four.third + params[at + 3] * four.fourth;
-    params[0] * silu + params[1] * curve
+    params[0] * silu + params[1] * curve_by(params, four)
 }
 
 fn add_four(

@@ -1,7 +1,7 @@
 -- A step from its parts: the gradients gathered in front of the lent slice, then the move. Assumes nothing.
 use mathlib.Core.Path.{_≡_, refl, sym, ap, _∙_}
 use mathlib.Core.Bool.{Bool, true, false, cond}
-use mathlib.Core.List.{List, _++_}
+use mathlib.Core.List.{List, [], _++_, append-nil}
 use Prim.Native.Nat.{ℕ, _-_, _*_, _≤_}
 use native.Mathlib.Omega.{arith}
 use lib.Dec.{eqb}
@@ -14,6 +14,8 @@ use Rattle.floats.proofs.Loops.{tab-length}
 use Rattle.layers.specs.Basis.{Basis}
 use Rattle.layers.specs.Widths.{inputWidth, outputWidth}
 use Rattle.rows.specs.Batch.{SoundBatch}
+use Rattle.swift_additions.specs.Adding.{Clean}
+use Rattle.swift_additions.proofs.Clean.{clean-zeros}
 use Rattle.descent.specs.Calls.{rowsOf, Accumulated, Applied}
 use Rattle.descent.specs.Accumulate.{allPass, gathered, movesFinite, movedOf}
 use Rattle.training.specs.Step.{scaleOf, gradientOf, stepFault, stepped}
@@ -22,6 +24,16 @@ use Rattle.training.specs.Stages.{Rests, GatherDone, StepDone}
 -- the front of a slice, as a part from 0 to n
 pub lent-front : (n : ℕ) (gs : List Float) → n ≤ length gs → length (take (n - 0) gs) ≡ n
 lent-front n gs h = let d : n - 0 ≡ n = omega arith in rw d (length-take-le n gs h)
+
+-- cleared, it has only +0.0
+lent-zeros : (n : ℕ) (gs gs₁ : List Float) → gs₁ ≡ zeros n ++ drop n gs → take (n - 0) gs₁ ≡ zeros n
+lent-zeros n gs gs₁ c =
+    let d : n - 0 ≡ n = omega arith in rw d (ap (take n) c ∙ take-at (zeros n) (drop n gs) n (tab-length _ n))
+
+pub lent-clean : (n : ℕ) (gs gs₁ : List Float) → gs₁ ≡ zeros n ++ drop n gs → Clean (length (take (n - 0) gs₁)) (take (n - 0) gs₁)
+lent-clean n gs gs₁ c =
+    let long : length (zeros n) ≡ n = tab-length _ n in
+    rw (lent-zeros n gs gs₁ c, long) (rw (append-nil (zeros n)) at (clean-zeros n []))
 
 module _ (B : Basis) (ws : List ℕ) (ps xs ts : List Float) where
   -- a sound batch has rows × outputs targets
@@ -38,7 +50,7 @@ module _ (B : Basis) (ws : List ℕ) (ps xs ts : List Float) where
       let n = length ps in
       let m = length ps - 0 in
       let d : m ≡ n = omega arith in
-      let front : take m gs₁ ≡ zeros n = rw d (ap (take n) c ∙ take-at (zeros n) (drop n gs) n (tab-length _ n)) in
+      let front = lent-zeros n gs gs₁ c in
       let behind : drop m gs₁ ≡ drop n gs = rw d (ap (drop n) c ∙ drop-at (zeros n) (drop n gs) n (tab-length _ n)) in
       let k : length ys ≡ n = l ∙ ap length front ∙ tab-length _ n in
       record {

@@ -1,22 +1,27 @@
 -- Steps one after the other: where training stands before step k, a step more, a stop, and the end. Assumes nothing.
 use mathlib.Core.Path.{_≡_, refl, sym, ap, _∙_}
 use mathlib.Core.Bool.{Bool, true, false, cond}
-use mathlib.Core.List.{List}
+use mathlib.Core.List.{List, [], append-nil}
 use Prim.Native.Nat.{ℕ, zero, suc, _+_, _*_, _≤_, _<_}
 use native.Mathlib.Numerals.{add-one}
 use native.Mathlib.Omega.{arith}
 use lib.Dec.{eqb}
 use lib.ListN.{length, drop}
-use lib.Ieee.{Float}
+use lib.Ieee.{Float, nan}
+use lib.Ieee.Scale.{finite}
 use borrow.Author.Tests.{eq-eqb, ne-eqb}
+use Rattle.floats.specs.Sums.{tabulate, at}
+use Rattle.floats.proofs.Loops.{tab-length, tab-get, all-each}
 use Rattle.spline.specs.declared.Grid.{Grid}
+use Rattle.support.specs.Support.{Finite}
 use Rattle.layers.specs.Basis.{Basis}
 use Rattle.rows.specs.Batch.{firstFault, doneTo}
 use Rattle.rows.proofs.Batches.{first-none, first-more, first-stop, done-all, done-stop}
-use Rattle.descent.specs.Calls.{twoN}
+use Rattle.descent.specs.Calls.{rowsOf}
+use Rattle.descent.specs.Accumulate.{allPass, movedAt, movedFinite, movesFinite, movedOf}
 use Rattle.training.specs.declared.calls.Training.{Training}
 use Rattle.training.specs.declared.calls.Training.the-variants.{All, Stopped}
-use Rattle.training.specs.Step.{stepped}
+use Rattle.training.specs.Step.{gradientOf, stepFault, stepped}
 use Rattle.training.specs.Train.{modelAfter, faultAt, trainingOf}
 use Rattle.training.specs.Stages.{Roomy, Ready, Rests, StepDone, StepsDone}
 
@@ -33,11 +38,35 @@ rests-more ws ps ps₁ gs W gs₁ W₁ gs₂ W₂ e p q = record {
   work = q .work ∙ p .work;
 }
 
--- ---- slices of the same lengths are ready as well
+-- ---- past 23 every parameter is finite again, as 11 found it
+moved-finite : (ps gs : List Float) (rate : Float) → movesFinite ps gs rate ≡ true
+    → Finite (length (movedOf ps gs rate)) (movedOf ps gs rate)
+unfolding movesFinite movedOf
+moved-finite ps gs rate e k h =
+    let f = movedAt ps gs rate in
+    let l : k < length ps = rw (tab-length f (length ps)) at h in
+    ap finite (ap (λ (z : List Float). at z k) (sym (append-nil (tabulate f (length ps)))) ∙ tab-get f (length ps) k l [] nan)
+    ∙ all-each (movedFinite ps gs rate) (length ps) e k l
+
+step-finite : (B : Basis) (ws : List ℕ) (ps xs ts : List Float) (rate : Float) (gs W ps' gs' W' : List Float) (r : ℕ)
+    → StepDone B ws ps xs ts rate gs W r ps' gs' W' → r ≡ 0 → Finite (length ps') ps'
+unfolding stepFault stepped
+step-finite B ws ps xs ts rate gs W ps' gs' W' r d z =
+    let moved : ps' ≡ movedOf ps (gradientOf B ps ws xs ts) rate = rw z at (d .model) in
+    let passed = allPass B ps ws xs (rowsOf ws xs) in
+    let fine = movesFinite ps (gradientOf B ps ws xs ts) rate in
+    rw moved (moved-finite ps (gradientOf B ps ws xs ts) rate (accepted passed fine (sym (d .refusal) ∙ z)))
+  where
+    accepted : (a b : Bool) → _≡_ {A = ℕ} (cond a (cond b 0 23) 20) 0 → b ≡ true
+    accepted true true e = refl
+    accepted true false e = absurd (omega (arith, e))
+    accepted false b e = absurd (omega (arith, e))
+
+-- ---- slices of the same lengths are ready as well, with a finite model
 pub ready-moved : (g : Grid) (ws : List ℕ) (ps xs ts gs W ps' gs' W' : List Float) → Ready g ws ps xs ts gs W → length ps' ≡ length ps
-    → length gs' ≡ length gs → length W' ≡ length W
+    → length gs' ≡ length gs → length W' ≡ length W → Finite (length ps') ps'
     → Ready g ws ps' xs ts gs' W'
-ready-moved g ws ps xs ts gs W ps' gs' W' r p q s =
+ready-moved g ws ps xs ts gs W ps' gs' W' r p q s h =
     let f = r .room .fits in
     record {
       room = record {
@@ -51,6 +80,7 @@ ready-moved g ws ps xs ts gs W ps' gs' W' r p q s =
         gradients = omega (arith, r .room .gradients, p, q);
       };
       batch = r .batch;
+      finite = h;
     }
 
 -- ---- before step k
@@ -58,16 +88,18 @@ module _ (B : Basis) (ws : List ℕ) (ps₀ xs ts : List Float) (rate : Float) (
   pub record Going (k : ℕ) (ps gs W : List Float) : Type 0 where
     pub sound : firstFault (faultAt B ps₀ ws xs ts rate) k ≡ 0
     pub model : ps ≡ modelAfter B ps₀ ws xs ts rate k
+    pub finite : Finite (length ps) ps
     pub sizeP : length ps ≡ length ps₀
     pub sizeG : length gs ≡ length gs₀
     pub sizeW : length W ≡ length W₀
     pub rests : Rests ws ps₀ gs₀ W₀ gs W
 
-  pub before-first : Going 0 ps₀ gs₀ W₀
+  pub before-first : Finite (length ps₀) ps₀ → Going 0 ps₀ gs₀ W₀
   unfolding modelAfter
-  before-first = record {
+  before-first h = record {
     sound = first-none _;
     model = refl;
+    finite = h;
     sizeP = refl;
     sizeG = refl;
     sizeW = refl;
@@ -87,6 +119,7 @@ module _ (B : Basis) (ws : List ℕ) (ps₀ xs ts : List Float) (rate : Float) (
   one-more k r ps gs W ps' gs' W' p q s h d z = record {
     sound = first-more _ k (h .sound) (sym (fault-here k r ps gs W ps' gs' W' h d) ∙ z);
     model = rw (add-one k, ← h .model) (rw z at (d .model));
+    finite = step-finite B ws ps xs ts rate gs W ps' gs' W' r d z;
     sizeP = p ∙ h .sizeP;
     sizeG = q ∙ h .sizeG;
     sizeW = s ∙ h .sizeW;

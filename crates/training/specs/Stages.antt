@@ -7,6 +7,7 @@ use lib.Dec.{eqb}
 use lib.ListN.{length, take, drop}
 use lib.Ieee.{Float}
 use Rattle.spline.specs.declared.Grid.{Grid}
+use Rattle.support.specs.Support.{Finite}
 use Rattle.layers.specs.Basis.{Basis}
 use Rattle.layers.specs.Widths.{inputWidth, outputWidth}
 use Rattle.rows.specs.Batch.{firstFault, doneTo, SoundBatch}
@@ -21,10 +22,11 @@ pub record Roomy (g : Grid) (ws : List ℕ) (ps gs W : List Float) : Type 0 wher
   pub fits : Fits g ps ws W
   pub gradients : length ps ≤ length gs
 
--- the batch is sound as well: a step can be made
+-- the batch is sound as well, and every parameter finite (11, and 23 after a step): a step can be made
 pub record Ready (g : Grid) (ws : List ℕ) (ps xs ts gs W : List Float) : Type 0 where
   pub room : Roomy g ws ps gs W
   pub batch : SoundBatch (inputWidth ws) (outputWidth ws) xs ts
+  pub finite : Finite (length ps) ps
 
 -- both lent slices are as they were beyond what is needed of them
 pub record Rests (ws : List ℕ) (ps gs W gs′ W′ : List Float) : Type 0 where

@@ -1,10 +1,13 @@
-// The two calls: the checks, the steps, and the sweep of what was lent.
+// The two calls: the checks, the steps, and the sweep of what was lent. Only they are public, and ask nothing.
 ghost use mathlib.Core.Path.{_≡_};
+ghost use Prim.Native.Nat.{_≤_, _<_};
+ghost use lib.ListN.{length};
+ghost use Rattle.exponential.specs.Steps.{Powers};
 ghost use Rattle.layers.specs.Basis.{basisOf, Basis};
+ghost use Rattle.layers.specs.Widths.{inputWidth, outputWidth};
+ghost use Rattle.training.specs.Step.{rateSound, trainingFault};
 ghost use Rattle.training.specs.Train.{refusedAtStart, Stepped, Trained};
-ghost use Rattle.training.specs.Stages.{Roomy, Ready, StepsDone, TrainDone};
-use crate::step::step;
-use crate::step::training_fault;
+ghost use Rattle.training.specs.Stages.{Roomy, Ready, GatherDone, StepDone, StepsDone, TrainDone};
 use admission::furnish;
 use config::Checked;
 use config::Outcome;
@@ -24,7 +27,90 @@ pub enum Training {
     Stopped(Stop),
 }
 
-// Steps in order, up to the first that is refused; those before it stay.
+// 19: the rate is finite and above 0.
+fn rate_sound(rate: f32) -> bool
+    ensures { λ r. ⌜ r ≡ rateSound rate ⌝ }
+{
+    if floats::is_finite(rate) {
+        return !(rate <= 0.0);
+    }
+    false
+}
+
+// The batch, and then the rate: 0 where both are sound.
+fn training_fault(widths: &[usize], inputs: &[f32], targets: &[f32], rate: f32) -> u32
+    requires { ⌜ (2 ≤ length (now widths)) × (0 < inputWidth (now widths)) × (0 < outputWidth (now widths)) ⌝ }
+    ensures { λ r. ⌜ r ≡ trainingFault (now (widths .entry)) (now (inputs .entry)) (now (targets .entry)) rate ⌝ }
+{
+    let last = widths.len() - 1;
+    let batch = rows::batch_fault(inputs, targets, widths[0], widths[last]);
+    if batch != 0 {
+        return batch;
+    }
+    if rate_sound(rate) {
+        return 0;
+    }
+    19
+}
+
+// The batch's gradients from +0.0, in front of `gradients`; false where a row meets 20.
+fn gather(
+    grid: Grid,
+    table: &[u32; 256],
+    widths: &[usize],
+    model: &[f32],
+    inputs: &[f32],
+    targets: &[f32],
+    gradients: &mut [f32],
+    work: &mut [f32],
+) -> bool
+    requires { ⌜ Ready grid (now widths) (now model) (now inputs) (now targets) (now gradients) (now work) × Powers (now table) ⌝ }
+    ensures { λ r. ⌜ GatherDone (basisOf grid) (now (widths .entry)) (now (model .entry)) (now (inputs .entry)) (now (targets .entry))
+        (now (gradients .entry)) (now (work .entry)) r (now (gradients .exit)) (now (work .exit)) ⌝ }
+{
+    let scale = 2.0 / (targets.len() as f32);
+    let count = model.len();
+    floats::clear(gradients, count);
+    descent::accumulate(
+        grid,
+        table,
+        widths,
+        model,
+        inputs,
+        targets,
+        scale,
+        &mut gradients[0..count],
+        work,
+    )
+}
+
+// Gathers, then moves all parameters or none: 20, 23, or 0 where the model has moved.
+fn step(
+    grid: Grid,
+    table: &[u32; 256],
+    widths: &[usize],
+    model: &mut [f32],
+    inputs: &[f32],
+    targets: &[f32],
+    rate: f32,
+    gradients: &mut [f32],
+    work: &mut [f32],
+) -> u32
+    requires { ⌜ Ready grid (now widths) (now model) (now inputs) (now targets) (now gradients) (now work) × Powers (now table) ⌝ }
+    ensures { λ r. ⌜ StepDone (basisOf grid) (now (widths .entry)) (now (model .entry)) (now (inputs .entry)) (now (targets .entry)) rate
+        (now (gradients .entry)) (now (work .entry)) r (now (model .exit)) (now (gradients .exit)) (now (work .exit)) ⌝ }
+{
+    if !gather(grid, table, widths, model, inputs, targets, gradients, work) {
+        return 20;
+    }
+    let count = model.len();
+    if descent::apply(model, &gradients[0..count], rate) {
+        return 0;
+    }
+    23
+}
+
+// Steps in order, up to the first that is refused; those before it stay. The table of E is laid out once for all.
 fn run_steps(
     grid: Grid,
     widths: &[usize],
@@ -40,8 +126,19 @@ fn run_steps(
     ensures { λ r. ⌜ StepsDone (basisOf grid) (now (widths .entry)) (now (model .entry)) (now (inputs .entry)) (now (targets .entry)) steps
         rate (now (gradients .entry)) (now (work .entry)) r (now (model .exit)) (now (gradients .exit)) (now (work .exit)) ⌝ }
 {
+    let table = exponential::scaled_powers();
     for done in 0..steps {
-        let number = step(grid, widths, model, inputs, targets, rate, gradients, work);
+        let number = step(
+            grid,
+            &table,
+            widths,
+            model,
+            inputs,
+            targets,
+            rate,
+            gradients,
+            work,
+        );
         if number != 0 {
             return Training::Stopped(Stop {
                 number,

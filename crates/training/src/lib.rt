@@ -1,7 +1,6 @@
 // Public crate: training. Each call takes all arguments and answers, or refuses by document 01's number; one record says the
 // answer and the final contents of everything that was lent.
 mod calls;
-mod step;
 
 pub use calls::Stop;
 pub use calls::Training;

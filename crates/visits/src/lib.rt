@@ -26,10 +26,11 @@ fn mark_rows(
 {
     let w = widths[0];
     let bytes = map.len();
+    let table = exponential::scaled_powers();
     marks::unmark(map, bytes);
     for r in 0..rows {
         let row = rows::row(inputs, w, r);
-        let number = marks::mark_row(grid, widths, model, row, first, second, map);
+        let number = marks::mark_row(grid, &table, widths, model, row, first, second, map);
         if number != 0 {
             marks::unmark(map, bytes);
             return Outcome::Refused(Refusal { number, carried: r });

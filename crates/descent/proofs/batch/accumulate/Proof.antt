@@ -8,14 +8,15 @@ use Rattle.descent.proofs.batch.accumulate.Tie as tie
 all-pass-requires : tie.Need-all-pass-requires
 all-pass-requires c κs =
     let entry = c .before .before .before .before .before .before .before in
-    (entry .pre .0, entry .pre .1 .inputs)
+    (entry .pre .0, entry .pre .1 .inputs, entry .pre .3, entry .pre .4)
 
 add-rows-requires : tie.Need-add-rows-requires
 add-rows-requires c κs =
     let all-pass-at = c .before .before .before .before .before in
     let entry = all-pass-at .before .before .before .before .before .before .before .before in
-    let fits = refit (entry .pre .0) (all-pass-at .all-pass .kept .1 .1 .1 .1 .0) in
-    (fits, entry .pre .1, entry .pre .2, sym (all-pass-at .all-pass .ensures .passed) ∙ c .before .before .if1 .taken)
+    let fits = refit (entry .pre .0) (all-pass-at .all-pass .kept .1 .1 .1 .1 .1 .0) in
+    let passed = sym (all-pass-at .all-pass .ensures .passed) ∙ c .before .before .if1 .taken in
+    (fits, entry .pre .1, entry .pre .2, passed, entry .pre .3, entry .pre .4, entry .pre .5)
 
 same-length : tie.Need-same-length
 same-length c = search needs

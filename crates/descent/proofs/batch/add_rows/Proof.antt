@@ -3,23 +3,26 @@ use mathlib.Core.Path.{_≡_, refl, sym, ap, _∙_}
 use Prim.Native.Nat.{ℕ, _+_, _-_, _*_, _≤_, _<_}
 use native.Mathlib.Omega.{arith}
 use lib.ListN.{length, drop}
+use Rattle.floats.proofs.Loops.{all-each}
 use Rattle.layers.specs.Basis.{basisOf}
 use Rattle.layers.specs.Widths.{outputWidth, widthsTo}
+use Rattle.swift_additions.specs.Adding.{Clean}
 use Rattle.descent.specs.Accumulate.{allPass, gathered}
-use Rattle.descent.proofs.Gathered.{all-at, row-starts, gathered-none, gathered-more}
+use Rattle.descent.proofs.Gathered.{row-starts, row-clean, gathered-none, gathered-more}
 use Rattle.descent.proofs.Slots.{row-length}
 use Rattle.descent.proofs.Spans.{refit, first-some, last-some}
 use Rattle.descent.proofs.batch.add_rows.Statement.{statement}
 use Rattle.descent.proofs.batch.add_rows.Tie as tie
 
 abbrev Inv-loop : tie.InvT-loop
-Inv-loop grid widths model inputs targets scale gradients₀ work₀ last w v count r₀ gradients work r =
+Inv-loop grid table widths model inputs targets scale gradients₀ work₀ last w v count r₀ gradients work r =
     (r ≤ count) × (length gradients ≡ length gradients₀) × (length work ≡ length work₀)
     × (gradients ≡ gathered (basisOf grid) model widths inputs targets (outputWidth widths) scale gradients₀ r)
     × (drop (2 * widthsTo widths (length widths)) work ≡ drop (2 * widthsTo widths (length widths)) work₀)
+    × Clean (length gradients₀) gradients
 
 abbrev μ-loop : tie.MeasureT-loop
-μ-loop grid widths model inputs targets scale gradients₀ work₀ last w v count r₀ gradients work r = count - r
+μ-loop grid table widths model inputs targets scale gradients₀ work₀ last w v count r₀ gradients work r = count - r
 
 sub-last : tie.Need-sub-last Inv-loop μ-loop
 sub-last c = omega (arith, c .before .before .before .before .before .before .pre .0 .some)
@@ -37,7 +40,9 @@ rows-in-requires : tie.Need-rows-in-requires Inv-loop μ-loop
 rows-in-requires c κs = first-some (c .before .before .before .before .before .before .before .before .pre .0)
 
 loop-holds : tie.Need-loop-holds Inv-loop μ-loop
-loop-holds c = (omega arith, refl, refl, gathered-none _ _ _ _ _ _ _ _, refl)
+loop-holds c =
+    let entry = c .before .before .before .before .before .before .before .before .before in
+    (omega arith, refl, refl, gathered-none _ _ _ _ _ _ _ _, refl, entry .pre .6)
 
 row-requires : tie.Need-row-requires Inv-loop μ-loop
 row-requires c κs =
@@ -60,7 +65,10 @@ add-row-requires c κs =
       turn .before .loop .inv .1 ∙ entry .pre .2,
       ap length (c .before .before .before .row .ensures) ∙ entry .pre .1 .inputs _ (omega (arith, t)),
       ap length (c .before .before .row2 .ensures) ∙ entry .pre .1 .targets _ (omega (arith, t)),
-      rw (c .before .before .before .row .ensures) (all-at _ _ _ (entry .pre .3) (omega (arith, t))),
+      rw (c .before .before .before .row .ensures) (all-each _ _ (entry .pre .3) _ (omega (arith, t))),
+      entry .pre .4,
+      entry .pre .5,
+      rw (turn .before .loop .inv .1) (turn .before .loop .inv .5),
     )
 
 add-r : tie.Need-add-r Inv-loop μ-loop
@@ -78,10 +86,11 @@ loop-again c =
     let added = rw (row-at .row .ensures, add-row-at .before .before .before .row2 .ensures) at (add-row-at .add-row .ensures) in
     let long = row-length _ _ _ _ _ _ (entry .pre .1 .inputs _ t) ∙ entry .pre .0 .params ∙ sym (entry .pre .2) in (
       omega arith,
-      add-row-at .add-row .kept .1 .1 .1 .1 .1 .1 .0 ∙ row-at .before .before .loop .inv .1,
-      add-row-at .add-row .kept .1 .1 .1 .1 .1 .1 .1 .0 ∙ row-at .before .before .loop .inv .2,
+      add-row-at .add-row .kept .1 .1 .1 .1 .1 .1 .1 .0 ∙ row-at .before .before .loop .inv .1,
+      add-row-at .add-row .kept .1 .1 .1 .1 .1 .1 .1 .1 .0 ∙ row-at .before .before .loop .inv .2,
       gathered-more _ _ _ _ _ _ _ _ _ _ _ (row-at .before .before .loop .inv .3) long (added .gradients),
       added .rest ∙ row-at .before .before .loop .inv .4,
+      row-clean _ _ _ _ _ _ _ _ _ (added .gradients) (row-at .before .before .loop .inv .5),
     )
 
 same-length : tie.Need-same-length Inv-loop μ-loop

@@ -16,12 +16,12 @@ use Rattle.descent.proofs.batch.all_pass.Statement.{statement}
 use Rattle.descent.proofs.batch.all_pass.Tie as tie
 
 abbrev Inv-loop : tie.InvT-loop
-Inv-loop grid widths model inputs work₀ w count r₀ work r =
+Inv-loop grid table widths model inputs work₀ w count r₀ work r =
     (r ≤ count) × (length work ≡ length work₀) × (allTo (passes (basisOf grid) model widths inputs) r ≡ true)
     × (drop (2 * widthsTo widths (length widths)) work ≡ drop (2 * widthsTo widths (length widths)) work₀)
 
 abbrev μ-loop : tie.MeasureT-loop
-μ-loop grid widths model inputs work₀ w count r₀ work r = count - r
+μ-loop grid table widths model inputs work₀ w count r₀ work r = count - r
 
 shared-slice-read-w : tie.Need-shared-slice-read-w Inv-loop μ-loop
 shared-slice-read-w c = omega (arith, c .before .before .before .before .before .pre .0 .some)
@@ -41,13 +41,17 @@ forward-requires : tie.Need-forward-requires Inv-loop μ-loop
 forward-requires c κs =
     let rows-in-at = c .before .before .before .before in
     let entry = rows-in-at .before .before .before .before .before .before in
-    let t = rw (rows-in-at .rows-in .ensures) at (c .before .before .loop-test .taken) in
-    (refit (entry .pre .0) (c .before .before .before .loop .inv .1), ap length (c .before .row .ensures) ∙ entry .pre .1 _ t)
+    let t = rw (rows-in-at .rows-in .ensures) at (c .before .before .loop-test .taken) in (
+      refit (entry .pre .0) (c .before .before .before .loop .inv .1),
+      ap length (c .before .row .ensures) ∙ entry .pre .1 _ t,
+      entry .pre .2,
+      entry .pre .3,
+    )
 
 same-length : tie.Need-same-length Inv-loop μ-loop
 same-length c =
     let head = c .before .before .before .before .before .before .before in
-    c .before .before .before .forward .kept .1 .1 .1 .1 .0 ∙ head .loop .inv .1
+    c .before .before .before .forward .kept .1 .1 .1 .1 .1 .0 ∙ head .loop .inv .1
 
 returns : tie.Need-returns Inv-loop μ-loop
 unfolding allPass
@@ -69,7 +73,7 @@ loop-again c =
     let f = rw (c .before .before .before .before .before .row .ensures) at (c .before .before .before .forward .ensures) in
     let calm = sym (f .finite) ∙ not-false _ (c .if1 .left) in
     let inv = c .before .before .before .before .before .before .before .loop .inv in
-    (omega arith, c .before .before .before .forward .kept .1 .1 .1 .1 .0 ∙ inv .1, all-more _ _ (inv .2) calm, further f ∙ inv .3)
+    (omega arith, c .before .before .before .forward .kept .1 .1 .1 .1 .1 .0 ∙ inv .1, all-more _ _ (inv .2) calm, further f ∙ inv .3)
 
 same-length-2 : tie.Need-same-length-2 Inv-loop μ-loop
 same-length-2 c = c .before .loop .inv .1

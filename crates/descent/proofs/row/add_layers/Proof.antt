@@ -6,24 +6,25 @@ use native.Mathlib.Omega.{arith}
 use lib.ListN.{length}
 use Rattle.floats.specs.Sums.{flatTo}
 use Rattle.floats.proofs.Loops.{rest, rest-length}
+use Rattle.floats.proofs.Places.{piece-length}
 use Rattle.layers.specs.Basis.{basisOf}
 use Rattle.layers.specs.Widths.{widthAt}
+use Rattle.rows.proofs.Passes.{finite-part}
 use Rattle.gradients.specs.Steps.{plusOf}
 use Rattle.descent.specs.Steps.{slotsIn}
 use Rattle.gradients.proofs.Adding.{plus-first}
-use Rattle.descent.proofs.Places.{piece-length}
-use Rattle.descent.proofs.Slots.{layer-more}
+use Rattle.descent.proofs.Slots.{layer-more, part-clean}
 use Rattle.descent.proofs.Spans.{Stand, set-out, go-on, reach}
 use Rattle.descent.proofs.row.add_layers.Statement.{statement}
 use Rattle.descent.proofs.row.add_layers.Tie as tie
 
 abbrev Inv-loop : tie.InvT-loop
-Inv-loop grid widths model work gradients₀ layers stride half at₀ from₀ l₀ gradients at from l =
+Inv-loop grid table widths model work gradients₀ layers stride half at₀ from₀ l₀ gradients at from l =
     (l ≤ layers) × Stand grid model widths work l at from × (length gradients ≡ length gradients₀)
     × (gradients ≡ plusOf gradients₀ (flatTo (slotsIn (basisOf grid) model widths work) l))
 
 abbrev μ-loop : tie.MeasureT-loop
-μ-loop grid widths model work gradients₀ layers stride half at₀ from₀ l₀ gradients at from l = layers - l
+μ-loop grid table widths model work gradients₀ layers stride half at₀ from₀ l₀ gradients at from l = layers - l
 
 sub-layers : tie.Need-sub-layers Inv-loop μ-loop
 sub-layers c = omega arith
@@ -146,6 +147,10 @@ add-layer-requires c κs =
         params = rw (xs, us, rest-length) (omega (arith, r));
         gradients = rw (xs, us, rest-length) (omega (arith, r, turn .before .loop .inv .2, entry .pre .1));
       },
+      entry .pre .2,
+      rw (xs, us) (finite-part (turn .before .loop .at) _ (entry .args .model .now) (entry .pre .3) (r .params)),
+      rw (xs, us) (part-clean _ _ _ _ _ _ _ _ _ (turn .loop-test .taken) (turn .before .loop .inv .1) (entry .pre .1)
+          (turn .before .loop .inv .3) (entry .pre .4)),
     )
 
 mul-at : tie.Need-mul-at Inv-loop μ-loop

@@ -5,6 +5,7 @@ use Prim.Native.Nat.{ℕ, _+_, _-_, _*_, _≤_, _<_}
 use native.Mathlib.Omega.{arith}
 use lib.ListN.{length, take}
 use Rattle.floats.proofs.Loops.{rest, rest-length}
+use Rattle.rows.proofs.Passes.{finite-part}
 use Rattle.layers.specs.Widths.{inputWidth}
 use Rattle.descent.proofs.Spans.{last-width}
 use Rattle.descent.proofs.Ups.{Led, led-behind, begun, one-back, ended}
@@ -12,11 +13,11 @@ use Rattle.descent.proofs.row.backward.Statement.{statement}
 use Rattle.descent.proofs.row.backward.Tie as tie
 
 abbrev Inv-loop : tie.InvT-loop
-Inv-loop grid widths model targets scale work₀ stride half l₀ from₀ at₀ work l from at =
+Inv-loop grid table widths model targets scale work₀ stride half l₀ from₀ at₀ work l from at =
     Led grid model widths (take (inputWidth widths) work₀) targets scale work₀ l at from work
 
 abbrev μ-loop : tie.MeasureT-loop
-μ-loop grid widths model targets scale work₀ stride half l₀ from₀ at₀ work l from at = l
+μ-loop grid table widths model targets scale work₀ stride half l₀ from₀ at₀ work l from at = l
 
 add-stride : tie.Need-add-stride Inv-loop μ-loop
 add-stride c = omega arith
@@ -99,14 +100,18 @@ back-layer-requires : tie.Need-back-layer-requires Inv-loop μ-loop
 back-layer-requires c κs =
     let head = c .before .before .before .before .before in
     let node-count-at = head .before .before .before .before .before .before in
-    let r = led-behind (head .loop .inv) in
-    record {
-      grid = head .loop .inv .stand .fits .grid;
-      some = r .some;
-      before = omega (arith, r, node-count-at .node-count .ensures);
-      room = omega (arith, r, node-count-at .node-count .ensures);
-      params = rw rest-length (omega (arith, r));
-    }
+    let entry = node-count-at .before .before .before .before .before .before in
+    let r = led-behind (head .loop .inv) in (
+      record {
+        grid = head .loop .inv .stand .fits .grid;
+        some = r .some;
+        before = omega (arith, r, node-count-at .node-count .ensures);
+        room = omega (arith, r, node-count-at .node-count .ensures);
+        params = rw rest-length (omega (arith, r));
+      },
+      entry .pre .3,
+      finite-part _ _ (entry .args .model .now) (entry .pre .4) (omega (arith, r)),
+    )
 
 loop-less : tie.Need-loop-less Inv-loop μ-loop
 loop-less c = omega arith

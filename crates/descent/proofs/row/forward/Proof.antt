@@ -6,17 +6,18 @@ use Prim.Native.Nat.{ℕ, _+_, _-_, _*_, _≤_, _<_}
 use native.Mathlib.Nat.{le-refl}
 use native.Mathlib.Omega.{arith}
 use Rattle.floats.proofs.Loops.{rest, rest-length}
+use Rattle.rows.proofs.Passes.{finite-part}
 use Rattle.descent.proofs.Spans.{reach, first-width}
 use Rattle.descent.proofs.Values.{Valued, begun, one-layer, stopped, arrived, copied}
 use Rattle.descent.proofs.row.forward.Statement.{statement}
 use Rattle.descent.proofs.row.forward.Tie as tie
 
 abbrev Inv-loop : tie.InvT-loop
-Inv-loop grid widths model row work₀ layers stride at₀ from₀ l₀ work at from l =
+Inv-loop grid table widths model row work₀ layers stride at₀ from₀ l₀ work at from l =
     (l ≤ layers) × Valued grid model widths row work₀ l at from work
 
 abbrev μ-loop : tie.MeasureT-loop
-μ-loop grid widths model row work₀ layers stride at₀ from₀ l₀ work at from l = layers - l
+μ-loop grid table widths model row work₀ layers stride at₀ from₀ l₀ work at from l = layers - l
 
 sub-layers : tie.Need-sub-layers Inv-loop μ-loop
 sub-layers c = omega arith
@@ -69,14 +70,19 @@ part-layer-in-end c = omega (arith, reach (c .before .before .loop-test .taken) 
 layer-in-requires : tie.Need-layer-in-requires Inv-loop μ-loop
 layer-in-requires c κs =
     let turn = c .before .before .before .before in
-    let r = reach (turn .loop-test .taken) (turn .before .loop .inv .1 .stand) in
-    record {
-      grid = turn .before .loop .inv .1 .stand .fits .grid;
-      some = r .some;
-      before = le-refl _;
-      room = omega (arith, r);
-      params = rw rest-length (omega (arith, r));
-    }
+    let copy-at = turn .before .before .before .before in
+    let entry = copy-at .before .before .before .before .before .before .before in
+    let r = reach (turn .loop-test .taken) (turn .before .loop .inv .1 .stand) in (
+      record {
+        grid = turn .before .loop .inv .1 .stand .fits .grid;
+        some = r .some;
+        before = le-refl _;
+        room = omega (arith, r);
+        params = rw rest-length (omega (arith, r));
+      },
+      entry .pre .2,
+      finite-part _ _ (entry .args .model .now) (entry .pre .3) (r .params),
+    )
 
 mul-all-finite : tie.Need-mul-all-finite Inv-loop μ-loop
 mul-all-finite c =
@@ -98,7 +104,7 @@ part-all-finite-start c =
 part-all-finite-end : tie.Need-part-all-finite-end Inv-loop μ-loop
 part-all-finite-end c =
     let turn = c .before .before .before .before .before .before .before .before in
-    omega (arith, reach (turn .loop-test .taken) (turn .before .loop .inv .1 .stand), c .before .before .before .layer-in .kept .1 .1 .0)
+    omega (arith, reach (turn .loop-test .taken) (turn .before .loop .inv .1 .stand), c .before .before .before .layer-in .kept .1 .1 .1 .0)
 
 all-finite-requires : tie.Need-all-finite-requires Inv-loop μ-loop
 all-finite-requires c κs = search needs
@@ -107,7 +113,7 @@ same-length : tie.Need-same-length Inv-loop μ-loop
 same-length c =
     let layer-in-at = c .before .before .before .before .before .before in
     let head = layer-in-at .before .before .before .before .before .before in
-    layer-in-at .layer-in .kept .1 .1 .0 ∙ head .loop .inv .1 .size ∙ head .before .before .before .copy .kept .1 .0
+    layer-in-at .layer-in .kept .1 .1 .1 .0 ∙ head .loop .inv .1 .size ∙ head .before .before .before .copy .kept .1 .0
 
 returns : tie.Need-returns Inv-loop μ-loop
 returns c =

@@ -3,10 +3,10 @@ use mathlib.Core.Path.{_≡_, refl}
 use Prim.Native.Nat.{ℕ, _+_, _-_, _≤_, _<_}
 use native.Mathlib.Omega.{arith}
 use lib.ListN.{length, length-set}
+use Rattle.floats.specs.Places.{partAt, writtenAt}
 use Rattle.floats.specs.Sums.{tabulate}
+use Rattle.floats.proofs.Places.{written-none, written-more, read-one}
 use Rattle.gradients.specs.Gradient.{outputGradient}
-use Rattle.descent.specs.Steps.{partAt, writtenAt}
-use Rattle.descent.proofs.Places.{written-none, written-more, read-one}
 use Rattle.descent.proofs.row.output_gradients.Statement.{statement}
 use Rattle.descent.proofs.row.output_gradients.Tie as tie
 

@@ -10,22 +10,29 @@ use Rattle.marks.specs.Touched.{nodeTouched, layerTouched}
 use Rattle.marks.specs.Steps.{markedBy}
 use Rattle.marks.proofs.Marking.{marked-first, marked-flat}
 use Rattle.marks.proofs.Layers.{node-length}
+use borrow.Author.Needs.{needs}
 use Rattle.marks.proofs.layer.mark_layer.Statement.{statement}
 use Rattle.marks.proofs.layer.mark_layer.Tie as tie
 
 abbrev Inv-loop : tie.InvT-loop
-Inv-loop grid inputs n map₀ row o₀ map o =
+Inv-loop grid inputs n map₀ calm width row o₀ map o =
     (o ≤ n) × (length map ≡ length map₀) × (map ≡ markedBy (flatTo (λ (q : ℕ). nodeTouched (basisOf grid) inputs) o) map₀)
 
 abbrev μ-loop : tie.MeasureT-loop
-μ-loop grid inputs n map₀ row o₀ map o = n - o
+μ-loop grid inputs n map₀ calm width row o₀ map o = n - o
+
+calm-requires : tie.Need-calm-requires Inv-loop μ-loop
+calm-requires c κs = search needs
+
+width-requires : tie.Need-width-requires Inv-loop μ-loop
+width-requires c κs = search needs
 
 add-row : tie.Need-add-row Inv-loop μ-loop
 add-row c = omega arith
 
 mul-row : tie.Need-mul-row Inv-loop μ-loop
 mul-row c =
-    let start = c .before .before .before in
+    let start = c .before .before .before .before .before in
     omega (arith, row-room _ _ _ (start .pre .1) (start .pre .2))
 
 loop-holds : tie.Need-loop-holds Inv-loop μ-loop
@@ -33,17 +40,17 @@ loop-holds c = (omega arith, refl, marked-first _ _)
 
 mul-at : tie.Need-mul-at Inv-loop μ-loop
 mul-at c =
-    let start = c .before .before .before .before .before in
+    let start = c .before .before .before .before .before .before .before in
     omega (arith, room _ _ _ _ (c .loop-test .taken) (start .pre .2))
 
 sub-mark-node : tie.Need-sub-mark-node Inv-loop μ-loop
 sub-mark-node c =
-    let start = c .before .before .before .before .before in
+    let start = c .before .before .before .before .before .before .before in
     omega (arith, room _ _ _ _ (c .loop-test .taken) (start .pre .2), c .before .loop .inv .1)
 
 part-mark-node-start : tie.Need-part-mark-node-start Inv-loop μ-loop
 part-mark-node-start c =
-    let start = c .before .before .before .before .before in
+    let start = c .before .before .before .before .before .before .before in
     omega (arith, room _ _ _ _ (c .loop-test .taken) (start .pre .2), c .before .loop .inv .1)
 
 part-mark-node-end : tie.Need-part-mark-node-end Inv-loop μ-loop
@@ -51,9 +58,13 @@ part-mark-node-end c = omega arith
 
 mark-node-requires : tie.Need-mark-node-requires Inv-loop μ-loop
 mark-node-requires c κs =
-    let start = c .before .before .before .before .before .before in
-    let r = room _ _ _ _ (c .before .loop-test .taken) (start .pre .2) in
-    (start .pre .0, rw rest-length (omega (arith, r, c .before .before .loop .inv .1)))
+    let at-width = c .before .before .before .before in
+    let at-calm = at-width .before in
+    let start = at-calm .before .before .before in
+    let r = room _ _ _ _ (c .before .loop-test .taken) (start .pre .2) in (
+      record { grid = start .pre .0; span = at-calm .calm .ensures; wide = at-width .width .ensures },
+      rw rest-length (omega (arith, r, c .before .before .loop .inv .1)),
+    )
 
 add-o : tie.Need-add-o Inv-loop μ-loop
 add-o c = omega arith
@@ -65,7 +76,7 @@ loop-again : tie.Need-loop-again Inv-loop μ-loop
 loop-again c =
     let at-loop-test = c .before .before .before .before in
     let at-loop = at-loop-test .before in
-    let start = at-loop .before .before .before .before in
+    let start = c .before .before .before .before .before .before .before .before .before .before .before in
     let r = room _ _ _ _ (at-loop-test .loop-test .taken) (start .pre .2) in
     let head = at-loop .loop in (
       omega arith,
@@ -80,7 +91,7 @@ same-length c = c .before .loop .inv .1
 returns : tie.Need-returns Inv-loop μ-loop
 unfolding layerTouched
 returns c =
-    let start = c .before .before .before .before .before in
+    let start = c .before .before .before .before .before .before .before in
     let e : c .before .loop .o ≡ start .args .n = omega arith in rw e at (c .before .loop .inv .2)
 
 pub mark-layer-spec : {M : Type 1} → statement M
@@ -89,6 +100,8 @@ mark-layer-spec =
     (tie.spec
     Inv-loop
     μ-loop
+    calm-requires
+    width-requires
     add-row
     mul-row
     loop-holds

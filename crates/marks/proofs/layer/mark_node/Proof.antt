@@ -14,11 +14,11 @@ use Rattle.marks.proofs.layer.mark_node.Statement.{statement}
 use Rattle.marks.proofs.layer.mark_node.Tie as tie
 
 abbrev Inv-loop : tie.InvT-loop
-Inv-loop grid inputs map₀ stride i₀ i-end map i =
+Inv-loop grid calm width inputs map₀ stride i₀ i-end map i =
     (i ≤ length inputs) × (length map ≡ length map₀) × (map ≡ markedBy (flatTo (inputTouched (basisOf grid) inputs) i) map₀)
 
 abbrev μ-loop : tie.MeasureT-loop
-μ-loop grid inputs map₀ stride i₀ i-end map i = length inputs - i
+μ-loop grid calm width inputs map₀ stride i₀ i-end map i = length inputs - i
 
 add-stride : tie.Need-add-stride Inv-loop μ-loop
 add-stride c = omega arith

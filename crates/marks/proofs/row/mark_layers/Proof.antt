@@ -15,26 +15,23 @@ use Rattle.marks.proofs.row.mark_layers.Statement.{statement}
 use Rattle.marks.proofs.row.mark_layers.Tie as tie
 
 abbrev Inv-loop : tie.InvT-loop
-Inv-loop grid widths model first₀ second₀ map₀ layers stride table at₀ l₀ first second map at l =
+Inv-loop grid table widths model first₀ second₀ map₀ layers stride at₀ l₀ first second map at l =
     (l ≤ layers) × Marching grid model widths (take (widthAt widths 0) second₀) first₀ second₀ map₀ l at first second map
 
 abbrev μ-loop : tie.MeasureT-loop
-μ-loop grid widths model first₀ second₀ map₀ layers stride table at₀ l₀ first second map at l = layers - l
+μ-loop grid table widths model first₀ second₀ map₀ layers stride at₀ l₀ first second map at l = layers - l
 
 sub-layers : tie.Need-sub-layers Inv-loop μ-loop
 sub-layers c =
     let at-before = c .before .before .before .before in
     let start = at-before .before in
-    omega (arith, start .pre .fits .some)
+    omega (arith, start .pre .0 .fits .some)
 
 add-stride : tie.Need-add-stride Inv-loop μ-loop
 add-stride c =
     let at-before = c .before .before .before .before .before in
     let start = at-before .before in
-    omega (arith, start .pre .fits .grid)
-
-scaled-powers-requires : tie.Need-scaled-powers-requires Inv-loop μ-loop
-scaled-powers-requires c κs = search needs
+    omega (arith, start .pre .0 .fits .grid)
 
 loop-holds : tie.Need-loop-holds Inv-loop μ-loop
 loop-holds c = (omega arith, before-layers _ _ _ _ _ _ _ refl)
@@ -59,16 +56,16 @@ sub-mark-held c =
     let at-before = c .before .before .before in
     let at-loop-test = at-before .before in
     let at-loop = at-loop-test .before in
-    let start = at-loop .before .before .before .before .before .before .before .before in
-    omega (arith, layer-inside _ _ (at-loop-test .loop-test .taken) (start .pre) (at-loop .loop .inv .1))
+    let start = at-loop .before .before .before .before .before .before .before in
+    omega (arith, layer-inside _ _ (at-loop-test .loop-test .taken) (start .pre .0) (at-loop .loop .inv .1))
 
 part-mark-held-start : tie.Need-part-mark-held-start Inv-loop μ-loop
 part-mark-held-start c =
     let at-before = c .before .before .before in
     let at-loop-test = at-before .before in
     let at-loop = at-loop-test .before in
-    let start = at-loop .before .before .before .before .before .before .before .before in
-    omega (arith, layer-inside _ _ (at-loop-test .loop-test .taken) (start .pre) (at-loop .loop .inv .1))
+    let start = at-loop .before .before .before .before .before .before .before in
+    omega (arith, layer-inside _ _ (at-loop-test .loop-test .taken) (start .pre .0) (at-loop .loop .inv .1))
 
 part-mark-held-end : tie.Need-part-mark-held-end Inv-loop μ-loop
 part-mark-held-end c = omega arith
@@ -78,74 +75,74 @@ mark-held-requires c κs =
     let at-before = c .before .before .before .before in
     let at-loop-test = at-before .before in
     let at-loop = at-loop-test .before in
-    let start = at-loop .before .before .before .before .before .before .before .before in
-    layer-held _ _ (at-loop-test .loop-test .taken) (start .pre) (at-loop .loop .inv .1)
+    let start = at-loop .before .before .before .before .before .before .before in
+    layer-held _ _ (at-loop-test .loop-test .taken) (start .pre .0) (at-loop .loop .inv .1)
 
 mul-turn : tie.Need-mul-turn Inv-loop μ-loop
 mul-turn c =
-    let at-before = c .before .before .before .before .before .before .before .before in
+    let at-before = c .before .before .before .before .before .before .before in
     let at-loop-test = at-before .before in
     let at-loop = at-loop-test .before in
-    let start = at-loop .before .before .before .before .before .before .before .before in
-    omega (arith, inside _ _ (at-loop-test .loop-test .taken) (start .pre .fits) (at-loop .loop .inv .1 .walked))
+    let start = at-loop .before .before .before .before .before .before .before in
+    omega (arith, inside _ _ (at-loop-test .loop-test .taken) (start .pre .0 .fits) (at-loop .loop .inv .1 .walked))
 
 sub-turn : tie.Need-sub-turn Inv-loop μ-loop
 sub-turn c =
-    let at-before = c .before .before .before .before .before .before .before .before in
+    let at-before = c .before .before .before .before .before .before .before in
     let at-loop-test = at-before .before in
     let at-loop = at-loop-test .before in
-    let start = at-loop .before .before .before .before .before .before .before .before in
-    omega (arith, inside _ _ (at-loop-test .loop-test .taken) (start .pre .fits) (at-loop .loop .inv .1 .walked))
+    let start = at-loop .before .before .before .before .before .before .before in
+    omega (arith, inside _ _ (at-loop-test .loop-test .taken) (start .pre .0 .fits) (at-loop .loop .inv .1 .walked))
 
 part-turn-start : tie.Need-part-turn-start Inv-loop μ-loop
 part-turn-start c =
-    let at-before = c .before .before .before .before .before .before .before .before in
+    let at-before = c .before .before .before .before .before .before .before in
     let at-loop-test = at-before .before in
     let at-loop = at-loop-test .before in
-    let start = at-loop .before .before .before .before .before .before .before .before in
-    omega (arith, inside _ _ (at-loop-test .loop-test .taken) (start .pre .fits) (at-loop .loop .inv .1 .walked))
+    let start = at-loop .before .before .before .before .before .before .before in
+    omega (arith, inside _ _ (at-loop-test .loop-test .taken) (start .pre .0 .fits) (at-loop .loop .inv .1 .walked))
 
 part-turn-end : tie.Need-part-turn-end Inv-loop μ-loop
 part-turn-end c =
-    let at-before = c .before .before .before .before .before .before .before .before in
+    let at-before = c .before .before .before .before .before .before .before in
     let at-loop-test = at-before .before in
     let at-loop = at-loop-test .before in
-    let start = at-loop .before .before .before .before .before .before .before .before in
-    omega (arith, inside _ _ (at-loop-test .loop-test .taken) (start .pre .fits) (at-loop .loop .inv .1 .walked))
+    let start = at-loop .before .before .before .before .before .before .before in
+    omega (arith, inside _ _ (at-loop-test .loop-test .taken) (start .pre .0 .fits) (at-loop .loop .inv .1 .walked))
 
 turn-requires : tie.Need-turn-requires Inv-loop μ-loop
 turn-requires c κs =
-    let at-before = c .before .before .before .before .before .before .before .before .before .before .before in
+    let at-before = c .before .before .before .before .before .before .before .before .before .before in
     let at-loop-test = at-before .before in
     let at-loop = at-loop-test .before in
-    let at-scaled-powers = at-loop .before in
-    let start = at-scaled-powers .before .before .before .before .before .before .before in (
-      may-turn _ _ (at-loop-test .loop-test .taken) (start .pre .fits) (at-loop .loop .inv .1 .walked),
-      at-scaled-powers .scaled-powers .ensures,
-      finite-part _ _ (start .args .model .now) (start .pre .finite) (inside _ _ (at-loop-test .loop-test .taken) (start .pre .fits) (at-loop .loop .inv .1 .walked)),
+    let start = at-loop .before .before .before .before .before .before .before in (
+      may-turn _ _ (at-loop-test .loop-test .taken) (start .pre .0 .fits) (at-loop .loop .inv .1 .walked),
+      start .pre .1,
+      finite-part _ _ (start .args .model .now) (start .pre .0 .finite)
+          (inside _ _ (at-loop-test .loop-test .taken) (start .pre .0 .fits) (at-loop .loop .inv .1 .walked)),
     )
 
 same-length : tie.Need-same-length Inv-loop μ-loop
 same-length c =
     let at-before = c .before .before .before .before in
     let at-turn = at-before .before in
-    let at-loop-test = at-turn .before .before .before .before .before .before .before .before .before .before .before .before .before in
+    let at-loop-test = at-turn .before .before .before .before .before .before .before .before .before .before .before .before in
     let at-loop = at-loop-test .before in
-    let start = at-loop .before .before .before .before .before .before .before .before in
-    keeps _ _ (at-loop-test .loop-test .taken) (start .pre .fits) (at-loop .loop .inv .1 .walked) (at-turn .turn .ensures) .sizeA
+    let start = at-loop .before .before .before .before .before .before .before in
+    keeps _ _ (at-loop-test .loop-test .taken) (start .pre .0 .fits) (at-loop .loop .inv .1 .walked) (at-turn .turn .ensures) .sizeA
 
 same-length-2 : tie.Need-same-length-2 Inv-loop μ-loop
 same-length-2 c =
     let at-before = c .before .before .before .before in
     let at-turn = at-before .before in
-    let at-loop-test = at-turn .before .before .before .before .before .before .before .before .before .before .before .before .before in
+    let at-loop-test = at-turn .before .before .before .before .before .before .before .before .before .before .before .before in
     let at-loop = at-loop-test .before in
-    let start = at-loop .before .before .before .before .before .before .before .before in
-    keeps _ _ (at-loop-test .loop-test .taken) (start .pre .fits) (at-loop .loop .inv .1 .walked) (at-turn .turn .ensures) .sizeB
+    let start = at-loop .before .before .before .before .before .before .before in
+    keeps _ _ (at-loop-test .loop-test .taken) (start .pre .0 .fits) (at-loop .loop .inv .1 .walked) (at-turn .turn .ensures) .sizeB
 
 same-length-3 : tie.Need-same-length-3 Inv-loop μ-loop
 same-length-3 c =
-    let at-before = c .before .before .before .before .before .before .before .before .before .before in
+    let at-before = c .before .before .before .before .before .before .before .before .before in
     let at-map = at-before .before in
     let at-loop = at-map .before .before .before .before .before .before .before .before in
     at-map .map .given .1 ∙ at-loop .loop .inv .1 .size
@@ -154,42 +151,43 @@ returns : tie.Need-returns Inv-loop μ-loop
 returns c =
     let at-before = c .before .before .before .before in
     let at-turn = at-before .before in
-    let at-loop-test = at-turn .before .before .before .before .before .before .before .before .before .before .before .before .before in
+    let at-loop-test = at-turn .before .before .before .before .before .before .before .before .before .before .before .before in
     let at-loop = at-loop-test .before in
-    let start = at-loop .before .before .before .before .before .before .before .before in
+    let start = at-loop .before .before .before .before .before .before .before in
     let k = at-loop .loop .inv .1 .walked in
-    let kept = keeps _ _ (at-loop-test .loop-test .taken) (start .pre .fits) k (at-turn .turn .ensures) in
+    let kept = keeps _ _ (at-loop-test .loop-test .taken) (start .pre .0 .fits) k (at-turn .turn .ensures) in
     layers-stopped _ _ _ _ _ _ _ _ _ _
     (stopped _ _ _ _ _ _ _ _ _ _ _ _ _ (not-true _ (c .if1 .taken)) (at-loop-test .loop-test .taken) kept k (at-turn .turn .ensures))
 
 mul-at : tie.Need-mul-at Inv-loop μ-loop
 mul-at c =
-    let at-before = c .before .before .before .before .before .before .before .before .before .before .before .before .before .before .before .before .before in
+    let at-before = c .before .before .before .before .before .before .before .before .before .before .before .before .before .before .before .before in
     let at-loop-test = at-before .before in
     let at-loop = at-loop-test .before in
-    let start = at-loop .before .before .before .before .before .before .before .before in
-    let i = inside _ _ (at-loop-test .loop-test .taken) (start .pre .fits) (at-loop .loop .inv .1 .walked) in
-    omega (arith, row-room _ _ _ (start .pre .fits .positive (at-loop .loop .l + 1) (omega arith)) (le-trans (le-add-left _ _) i))
+    let start = at-loop .before .before .before .before .before .before .before in
+    let i = inside _ _ (at-loop-test .loop-test .taken) (start .pre .0 .fits) (at-loop .loop .inv .1 .walked) in
+    omega (arith, row-room _ _ _ (start .pre .0 .fits .positive (at-loop .loop .l + 1) (omega arith)) (le-trans (le-add-left _ _) i))
 
 mul-at-2 : tie.Need-mul-at-2 Inv-loop μ-loop
 mul-at-2 c =
-    let at-before = c .before .before .before .before .before .before .before .before .before .before .before .before .before .before .before .before .before in
+    let at-before = c .before .before .before .before .before .before .before .before .before .before .before .before .before .before .before .before in
     let at-loop-test = at-before .before in
     let at-loop = at-loop-test .before in
-    let start = at-loop .before .before .before .before .before .before .before .before in
-    omega (arith, inside _ _ (at-loop-test .loop-test .taken) (start .pre .fits) (at-loop .loop .inv .1 .walked))
+    let start = at-loop .before .before .before .before .before .before .before in
+    omega (arith, inside _ _ (at-loop-test .loop-test .taken) (start .pre .0 .fits) (at-loop .loop .inv .1 .walked))
 
 add-at : tie.Need-add-at Inv-loop μ-loop
 add-at c =
-    let at-before = c .before .before .before .before .before .before .before .before .before .before .before .before .before .before .before .before .before in
+    let at-before = c .before .before .before .before .before .before .before .before .before .before .before .before .before .before .before .before in
     let at-loop-test = at-before .before in
     let at-loop = at-loop-test .before in
-    let start = at-loop .before .before .before .before .before .before .before .before in
-    omega (arith, inside _ _ (at-loop-test .loop-test .taken) (start .pre .fits) (at-loop .loop .inv .1 .walked))
+    let start = at-loop .before .before .before .before .before .before .before in
+    omega (arith, inside _ _ (at-loop-test .loop-test .taken) (start .pre .0 .fits) (at-loop .loop .inv .1 .walked))
 
 add-l : tie.Need-add-l Inv-loop μ-loop
 add-l c =
-    let at-loop-test = c .before .before .before .before .before .before .before .before .before .before .before .before .before .before .before .before .before .before in
+    let at-loop-test =
+    c .before .before .before .before .before .before .before .before .before .before .before .before .before .before .before .before .before in
     omega (arith, at-loop-test .loop-test .taken)
 
 loop-less : tie.Need-loop-less Inv-loop μ-loop
@@ -199,13 +197,13 @@ loop-again : tie.Need-loop-again Inv-loop μ-loop
 loop-again c =
     let at-before = c .before .before .before .before in
     let at-turn = at-before .before in
-    let at-map = at-turn .before .before .before .before .before .before in
+    let at-map = at-turn .before .before .before .before .before in
     let at-mark-held = at-map .before in
     let at-loop-test = at-mark-held .before .before .before .before .before .before in
     let at-loop = at-loop-test .before in
-    let start = at-loop .before .before .before .before .before .before .before .before in
+    let start = at-loop .before .before .before .before .before .before .before in
     let m = at-loop .loop .inv .1 in
-    let p = start .pre in
+    let p = start .pre .0 in
     let h = at-loop-test .loop-test .taken in
     let wide = length-take-le _ _ (p .fits .second 0 (omega (arith, p .fits .some))) in
     let kept = keeps _ _ h (p .fits) (m .walked) (at-turn .turn .ensures) in (
@@ -237,7 +235,6 @@ mark-layers-spec =
     μ-loop
     sub-layers
     add-stride
-    scaled-powers-requires
     loop-holds
     mul-w
     shared-slice-read-w

@@ -22,7 +22,7 @@ copy-requires : tie.Need-copy-requires
 copy-requires c κs =
     let start = c .before .before .before .before .before .before .before .before .before .before in
     let wide = full _ _ (sym (c .before .before .row-fault .ensures) ∙ c .before .if1 .left) in
-    omega (arith, wide, start .pre .fits .second 0 (omega (arith, start .pre .fits .some)))
+    omega (arith, wide, start .pre .0 .fits .second 0 (omega (arith, start .pre .0 .fits .some)))
 
 mark-layers-requires : tie.Need-mark-layers-requires
 mark-layers-requires c κs =
@@ -30,12 +30,12 @@ mark-layers-requires c κs =
     let at-if1 = at-copy .before .before in
     let at-row-fault = at-if1 .before in
     let start = at-row-fault .before .before .before .before .before .before .before .before in
-    let p = start .pre in
+    let p = start .pre .0 in
     let row = start .args .row .now in
     let wide = full _ _ (sym (at-row-fault .row-fault .ensures) ∙ at-if1 .if1 .left) in
     let room : length row ≤ length (start .args .second .now) = omega (arith, wide, p .fits .second 0 (omega (arith, p .fits .some))) in
     let size = same-size row (length row) (start .args .second .now) _ refl room (at-copy .copy .ensures) in
-    record { fits = fits-moved _ _ _ _ _ _ _ (p .fits) refl size; finite = p .finite; bytes = p .bytes }
+    (record { fits = fits-moved _ _ _ _ _ _ _ (p .fits) refl size; finite = p .finite; bytes = p .bytes }, start .pre .1)
 
 same-length : tie.Need-same-length
 same-length c = search needs
@@ -53,7 +53,7 @@ returns-2 c =
     let at-if1 = at-copy .before .before in
     let at-row-fault = at-if1 .before in
     let start = at-row-fault .before .before .before .before .before .before .before .before in
-    row-through _ _ _ _ _ _ _ _ _ _ _ _ _ (omega (arith, start .pre .fits .some))
+    row-through _ _ _ _ _ _ _ _ _ _ _ _ _ (omega (arith, start .pre .0 .fits .some))
     (sym (at-row-fault .row-fault .ensures) ∙ at-if1 .if1 .left) (at-copy .copy .ensures)
     (at-mark-layers .mark-layers .ensures) (sym (rw (c .if2 .taken)))
 
@@ -73,7 +73,7 @@ returns-3 c =
     let at-if1 = at-copy .before .before in
     let at-row-fault = at-if1 .before in
     let start = at-row-fault .before .before .before .before .before .before .before .before in
-    row-through _ _ _ _ _ _ _ _ _ _ _ _ _ (omega (arith, start .pre .fits .some))
+    row-through _ _ _ _ _ _ _ _ _ _ _ _ _ (omega (arith, start .pre .0 .fits .some))
     (sym (at-row-fault .row-fault .ensures) ∙ at-if1 .if1 .left) (at-copy .copy .ensures)
     (at-mark-layers .mark-layers .ensures) (sym (rw (c .if2 .left)))
 

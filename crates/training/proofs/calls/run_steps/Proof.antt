@@ -2,53 +2,61 @@
 use mathlib.Core.Path.{_≡_, sym, _∙_}
 use Prim.Native.Nat.{_-_, _≤_}
 use native.Mathlib.Omega.{arith}
+use borrow.Author.Needs.{needs}
 use Rattle.layers.specs.Basis.{basisOf}
 use Rattle.training.proofs.Steps.{ready-moved, Going, before-first, one-more, steps-stopped, steps-all}
 use Rattle.training.proofs.calls.run_steps.Statement.{statement}
 use Rattle.training.proofs.calls.run_steps.Tie as tie
 
 abbrev Inv-loop : tie.InvT-loop
-Inv-loop grid widths model₀ inputs targets steps rate gradients₀ work₀ done₀ model gradients work done =
+Inv-loop grid widths model₀ inputs targets steps rate gradients₀ work₀ table done₀ model gradients work done =
     (done ≤ steps) × Going (basisOf grid) widths model₀ inputs targets rate gradients₀ work₀ done model gradients work
 
 abbrev μ-loop : tie.MeasureT-loop
-μ-loop grid widths model₀ inputs targets steps rate gradients₀ work₀ done₀ model gradients work done =
+μ-loop grid widths model₀ inputs targets steps rate gradients₀ work₀ table done₀ model gradients work done =
     steps - done
 
+scaled-powers-requires : tie.Need-scaled-powers-requires Inv-loop μ-loop
+scaled-powers-requires c κs = search needs
+
 loop-holds : tie.Need-loop-holds Inv-loop μ-loop
-loop-holds c = (omega arith, before-first _ _ _ _ _ _ _ _)
+loop-holds c =
+    let start = c .before .before .before .before .before .before .before in
+    (omega arith, before-first _ _ _ _ _ _ _ _ (start .pre .finite))
 
 step-requires : tie.Need-step-requires Inv-loop μ-loop
 step-requires c κs =
-    let at-loop = c .before .before .before .before in
-    let start = at-loop .before .before .before .before .before .before .before in
+    let at-loop = c .before .before .before .before .before in
+    let at-scaled-powers = at-loop .before in
+    let start = at-scaled-powers .before .before .before .before .before .before .before in
     let h = at-loop .loop .inv .1 in
-    ready-moved _ _ _ _ _ _ _ _ _ _ (start .pre) (h .sizeP) (h .sizeG) (h .sizeW)
+    (ready-moved _ _ _ _ _ _ _ _ _ _ (start .pre) (h .sizeP) (h .sizeG) (h .sizeW) (h .finite), at-scaled-powers .scaled-powers .ensures)
 
 same-length : tie.Need-same-length Inv-loop μ-loop
 same-length c =
     let at-step = c .before .before .before .before .before .before .before in
-    let at-loop = at-step .before .before .before .before .before in
-    at-step .step .kept .1 .1 .0 ∙ at-loop .loop .inv .1 .sizeP
+    let at-loop = at-step .before .before .before .before .before .before in
+    at-step .step .kept .1 .1 .1 .0 ∙ at-loop .loop .inv .1 .sizeP
 
 same-length-2 : tie.Need-same-length-2 Inv-loop μ-loop
 same-length-2 c =
     let at-step = c .before .before .before .before .before .before .before in
-    let at-loop = at-step .before .before .before .before .before in
-    at-step .step .kept .1 .1 .1 .1 .1 .1 .0 ∙ at-loop .loop .inv .1 .sizeG
+    let at-loop = at-step .before .before .before .before .before .before in
+    at-step .step .kept .1 .1 .1 .1 .1 .1 .1 .0 ∙ at-loop .loop .inv .1 .sizeG
 
 same-length-3 : tie.Need-same-length-3 Inv-loop μ-loop
 same-length-3 c =
     let at-step = c .before .before .before .before .before .before .before in
-    let at-loop = at-step .before .before .before .before .before in
-    at-step .step .kept .1 .1 .1 .1 .1 .1 .1 .0 ∙ at-loop .loop .inv .1 .sizeW
+    let at-loop = at-step .before .before .before .before .before .before in
+    at-step .step .kept .1 .1 .1 .1 .1 .1 .1 .1 .0 ∙ at-loop .loop .inv .1 .sizeW
 
 returns : tie.Need-returns Inv-loop μ-loop
 returns c =
     let at-step = c .before .before .before .before .before .before .before in
-    let at-loop-test = at-step .before .before .before .before in
+    let at-loop-test = at-step .before .before .before .before .before in
     let at-loop = at-loop-test .before in
-    steps-stopped _ _ _ _ _ _ _ _ _ _ _ _ _ _ _ _ _ (at-loop-test .loop-test .taken) (at-loop .loop .inv .1) (at-step .step .ensures) (c .if1 .taken)
+    steps-stopped _ _ _ _ _ _ _ _ _ _ _ _ _ _ _ _ _ (at-loop-test .loop-test .taken) (at-loop .loop .inv .1) (at-step .step .ensures)
+    (c .if1 .taken)
 
 add-done : tie.Need-add-done Inv-loop μ-loop
 add-done c = omega arith
@@ -59,9 +67,10 @@ loop-less c = omega arith
 loop-again : tie.Need-loop-again Inv-loop μ-loop
 loop-again c =
     let at-step = c .before .before .before .before .before .before .before in
-    let at-loop = at-step .before .before .before .before .before in (
+    let at-loop = at-step .before .before .before .before .before .before in (
       omega arith,
-      one-more _ _ _ _ _ _ _ _ _ _ _ _ _ _ _ _ (at-step .step .kept .1 .1 .0) (at-step .step .kept .1 .1 .1 .1 .1 .1 .0) (at-step .step .kept .1 .1 .1 .1 .1 .1 .1 .0) (at-loop .loop .inv .1) (at-step .step .ensures) (c .if1 .left),
+      one-more _ _ _ _ _ _ _ _ _ _ _ _ _ _ _ _ (at-step .step .kept .1 .1 .1 .0) (at-step .step .kept .1 .1 .1 .1 .1 .1 .1 .0)
+          (at-step .step .kept .1 .1 .1 .1 .1 .1 .1 .1 .0) (at-loop .loop .inv .1) (at-step .step .ensures) (c .if1 .left),
     )
 
 same-length-4 : tie.Need-same-length-4 Inv-loop μ-loop
@@ -82,6 +91,7 @@ run-steps-spec =
     (tie.spec
     Inv-loop
     μ-loop
+    scaled-powers-requires
     loop-holds
     step-requires
     same-length

@@ -70,7 +70,8 @@ returns-2 c =
     let at-train-sound = at-clear .before .before .before .before .before .before .before .before .before in
     let at-checked2 = at-train-sound .before .before .before .before .before in
     let at-furnish = at-checked2 .before .before in
-    train-done _ _ _ _ _ _ _ _ _ _ _ _ _ _ _ _ _ (sym (at-furnish .furnish .ensures) ∙ at-checked2 .checked2 .given .1) (at-train-sound .train-sound .ensures) (at-clear .clear .ensures) (c .before .before .clear2 .ensures)
+    train-done _ _ _ _ _ _ _ _ _ _ _ _ _ _ _ _ _ (sym (at-furnish .furnish .ensures) ∙ at-checked2 .checked2 .given .1)
+    (at-train-sound .train-sound .ensures) (at-clear .clear .ensures) (c .before .before .clear2 .ensures)
 
 pub train-spec : {M : Type 1} → statement M
 train-spec =

@@ -1,0 +1,4 @@
+pub mod Rows
+pub mod Clean
+pub mod Fours
+pub mod Inputs

@@ -1,0 +1,55 @@
+-- `training::training_fault` meets its contract: the batch, and then the rate. Assumes nothing.
+use mathlib.Core.Path.{_≡_, sym, _∙_}
+use Rattle.rows.proofs.Batches.{or-first}
+use Rattle.training.specs.Step.{trainingFault}
+use borrow.Author.Needs.{needs}
+use Rattle.training.proofs.calls.training_fault.Statement.{statement}
+use Rattle.training.proofs.calls.training_fault.Tie as tie
+
+sub-last : tie.Need-sub-last
+sub-last c = search needs
+
+shared-slice-read-batch-fault : tie.Need-shared-slice-read-batch-fault
+shared-slice-read-batch-fault c = search needs
+
+mul-batch-fault : tie.Need-mul-batch-fault
+mul-batch-fault c = search needs
+
+shared-slice-read-batch-fault-2 : tie.Need-shared-slice-read-batch-fault-2
+shared-slice-read-batch-fault-2 c = search needs
+
+batch-fault-requires : tie.Need-batch-fault-requires
+batch-fault-requires c κs = search needs
+
+returns : tie.Need-returns
+unfolding trainingFault
+returns c = rw (← c .before .batch-fault .ensures) (or-first _ _ (c .if1 .taken))
+
+rate-sound-requires : tie.Need-rate-sound-requires
+rate-sound-requires c κs = search needs
+
+returns-2 : tie.Need-returns-2
+unfolding trainingFault
+returns-2 c =
+    let at-batch-fault = c .before .before .before in
+    rw (← at-batch-fault .batch-fault .ensures, c .before .before .if1 .left, ← c .before .rate-sound .ensures, c .if2 .taken)
+
+returns-3 : tie.Need-returns-3
+unfolding trainingFault
+returns-3 c =
+    let at-batch-fault = c .before .before .before in
+    rw (← at-batch-fault .batch-fault .ensures, c .before .before .if1 .left, ← c .before .rate-sound .ensures, c .if2 .left)
+
+pub training-fault-spec : {M : Type 1} → statement M
+training-fault-spec =
+    tie.close
+    (tie.spec
+    sub-last
+    shared-slice-read-batch-fault
+    mul-batch-fault
+    shared-slice-read-batch-fault-2
+    batch-fault-requires
+    returns
+    rate-sound-requires
+    returns-2
+    returns-3)

@@ -1,6 +1,7 @@
 #!/usr/bin/env bash
 # Builds the oracle and runs one of its programs:
-#   oracle/run.sh self-test | lists
+#   oracle/run.sh self-test
+#   oracle/run.sh lists [images | visits]
 #   oracle/run.sh leaves [--every N] [--offset M] [--basis N]
 #   oracle/run.sh calls | training | images | visits [--rounds N] [--seed S] [--large] [--round R]
 #   oracle/run.sh bench .. (bench/run.sh makes what it needs)

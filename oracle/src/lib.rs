@@ -6,6 +6,7 @@
 pub mod arguments;
 pub mod bits;
 pub mod calls;
+pub mod cases;
 pub mod drawn_calls;
 pub mod draws;
 pub mod exponential;

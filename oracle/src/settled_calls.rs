@@ -16,6 +16,8 @@ const OLD_OUTPUT: f32 = 5.0;
 const NAN: f32 = f32::NAN;
 
 pub struct Settled<C> {
+    /// What the stored lists say of this call and of those that follow without such a line.
+    pub heading: &'static str,
     pub call: C,
     pub number: u32,
     pub carried: usize,
@@ -154,6 +156,7 @@ impl Model {
 
 fn settled<C>(call: C, number: u32, carried: usize) -> Settled<C> {
     Settled {
+        heading: "",
         call,
         number,
         carried,
@@ -166,6 +169,12 @@ fn writes<C>(call: C, number: u32, carried: usize, written: &[u64]) -> Settled<C
         written: Some(written.to_vec()),
         ..settled(call, number, carried)
     }
+}
+
+/// Calls with what the stored lists say of them.
+fn headed<C>(heading: &'static str, mut calls: Vec<Settled<C>>) -> Vec<Settled<C>> {
+    calls[0].heading = heading;
+    calls
 }
 
 /// The chosen calls of a program.

@@ -7,7 +7,7 @@ use case_reading::length_here;
 use case_reading::setup_here;
 use config::Checked;
 use config::Counted;
-use network::Loss;
+use loss::Loss;
 use spline::Grid;
 
 // K widths.. g lo hi number carried P, where P is 0 on refusal
@@ -57,7 +57,7 @@ fn initialise_meets(
     seed: u64,
     model: &mut [f32],
 ) -> bool {
-    let outcome = network::initialise(widths, grid, seed, model);
+    let outcome = start::initialise(widths, grid, seed, model);
     let answered = at.meet_outcome(words, outcome);
     answered.meet_floats(words, model).is_end(words)
 }
@@ -126,7 +126,7 @@ fn predict_meets(
     second: &mut [f32],
     outputs: &mut [f32],
 ) -> bool {
-    let outcome = network::predict_batch(widths, grid, model, inputs, first, second, outputs);
+    let outcome = prediction::predict_batch(widths, grid, model, inputs, first, second, outputs);
     let answered = at.meet_outcome(words, outcome);
     let worked = answered
         .meet_floats(words, first)
@@ -172,7 +172,7 @@ fn drawn_predict_lent(
     model: &mut [f32],
     inputs: &[f32],
 ) -> bool {
-    network::initialise(widths, grid, seed.word(words), model);
+    start::initialise(widths, grid, seed.word(words), model);
     predict_lent(words, at, widths, grid, model, inputs)
 }
 
@@ -242,7 +242,7 @@ fn loss_meets(
     first: &mut [f32],
     second: &mut [f32],
 ) -> bool {
-    let loss = network::mse_loss(widths, grid, model, inputs, targets, first, second);
+    let loss = loss::mse_loss(widths, grid, model, inputs, targets, first, second);
     let answered = meet_loss(words, at, loss);
     answered
         .meet_floats(words, first)

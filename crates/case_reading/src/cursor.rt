@@ -41,6 +41,16 @@ impl Cursor {
         }
     }
 
+    // Past one word, which must be a byte.
+    pub fn skip_byte(self, words: &[u64]) -> Cursor {
+        let next = self.skip(words, 1);
+        if self.word(words) < 256 {
+            next
+        } else {
+            next.unsound()
+        }
+    }
+
     // Past one word, which must be this number.
     pub fn meet(self, words: &[u64], number: u64) -> Cursor {
         let next = self.skip(words, 1);
@@ -81,6 +91,28 @@ impl Cursor {
         next.unsound()
     }
 
+    // Past as many words as there are bytes, which must be they.
+    pub fn meet_bytes(self, words: &[u64], found: &[u8]) -> Cursor {
+        let mut next = self;
+        let mut i = 0;
+        while i < found.len() {
+            next = next.meet(words, wide(found[i]));
+            i += 1;
+        }
+        next
+    }
+
+    // The same for sizes.
+    pub fn meet_sizes(self, words: &[u64], found: &[usize]) -> Cursor {
+        let mut next = self;
+        let mut i = 0;
+        while i < found.len() {
+            next = next.meet(words, found[i] as u64);
+            i += 1;
+        }
+        next
+    }
+
     // Whether the whole case was met.
     pub fn is_end(self, words: &[u64]) -> bool {
         self.sound & (self.at == words.len())
@@ -100,4 +132,8 @@ fn agree(words: &[u64], found: &[f32]) -> bool {
         i += 1;
     }
     true
+}
+
+fn wide(byte: u8) -> u64 {
+    byte as u64
 }

@@ -26,6 +26,13 @@ pub struct Floats {
     pub next: Cursor,
 }
 
+// N b0 .. b(N-1)
+pub struct Bytes {
+    pub values: [u8; 128],
+    pub count: usize,
+    pub next: Cursor,
+}
+
 // A length of at most `room`.
 pub fn length_here(words: &[u64], cursor: Cursor, room: usize) -> Length
     ensures { λ r. ⌜ r .count ≤ room ⌝ }
@@ -92,4 +99,29 @@ pub fn floats_here(words: &[u64], cursor: Cursor) -> Floats
         count,
         next,
     }
+}
+
+// A list of bytes. A word that is no byte leaves an unsound cursor.
+pub fn bytes_here(words: &[u64], cursor: Cursor) -> Bytes
+    ensures { λ r. ⌜ r .count ≤ length (r .values) ⌝ }
+{
+    let length = length_here(words, cursor, 128);
+    let count = length.count;
+    let mut values = [0u8; 128];
+    let mut next = length.next;
+    let mut i = 0;
+    while i < count {
+        values[i] = byte_of(next.word(words));
+        next = next.skip_byte(words);
+        i += 1;
+    }
+    Bytes {
+        values,
+        count,
+        next,
+    }
+}
+
+fn byte_of(word: u64) -> u8 {
+    (word % 256) as u8
 }

@@ -16,10 +16,10 @@ use Rattle.config.specs.declared.Refusal.{Refusal}
 use Rattle.config.specs.declared.Checked.{Checked}
 use Rattle.config.specs.declared.Checked.the-variants.{Sound, Refused}
 use Rattle.admission.specs.Admission.{equipped, furnished, swept, sweptOf, answered, written, parametersOf, twiceNodes}
-use Rattle.network.specs.Forward.{passOutputs, inFirst, forwardNumber, forwardOutputs, forwardSlice}
-use Rattle.network.specs.Forward.{forwardRefusal, forwardPart, forwardFirst, forwardSecond}
-use Rattle.network.specs.Predict.{outputsFit, predictOutcome, predictWritten}
-use Rattle.network.specs.Loss.{lossOf, lossAnswer}
+use Rattle.single.specs.Forward.{passOutputs, inFirst, forwardNumber, forwardOutputs, forwardSlice}
+use Rattle.single.specs.Forward.{forwardRefusal, forwardPart, forwardFirst, forwardSecond}
+use Rattle.prediction.specs.Predict.{outputsFit, predictOutcome, predictWritten}
+use Rattle.loss.specs.Loss.{lossOf, lossAnswer}
 use Rattle.training.specs.Step.{trainingFault}
 use Rattle.training.specs.Train.{trainFault, trainDone, trainModel, outcomeOf, trainingOf, trainingAnswer}
 use Rattle.demands.specs.Silent.{Places, Differ}

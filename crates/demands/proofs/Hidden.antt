@@ -9,9 +9,9 @@ use Rattle.spline.specs.declared.Grid.{Grid}
 use Rattle.layers.specs.Basis.{basisOf}
 use Rattle.config.specs.declared.Checked.{Checked}
 use Rattle.admission.specs.Admission.{equipped, furnished, answered, written}
-use Rattle.network.specs.Forward.{inFirst, forwardNumber, forwardOutputs, forwardSlice}
-use Rattle.network.specs.Forward.{forwardRefusal, forwardPart, forwardFirst, forwardSecond}
-use Rattle.network.specs.Loss.{lossAnswer}
+use Rattle.single.specs.Forward.{inFirst, forwardNumber, forwardOutputs, forwardSlice}
+use Rattle.single.specs.Forward.{forwardRefusal, forwardPart, forwardFirst, forwardSecond}
+use Rattle.loss.specs.Loss.{lossAnswer}
 use Rattle.training.specs.Train.{outcomeOf, trainingOf, trainingAnswer}
 use Rattle.demands.specs.Start.{StartHidden}
 use Rattle.demands.proofs.Start.{pass-start, pass-outputs-start, outcome-start, written-start, loss-start}

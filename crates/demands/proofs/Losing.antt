@@ -14,10 +14,10 @@ use Rattle.rows.specs.Pass.{nodesFinite}
 use Rattle.rows.specs.Batch.{rowsIn, rowAt, rowsFault, rowFaultAt, orElse, batchFault}
 use Rattle.rows.proofs.Batches.{first-clear, wide-row}
 use Rattle.descent.specs.Calls.{rowsOf, Full}
-use Rattle.network.specs.declared.loss.Sum.{Sum}
-use Rattle.network.specs.declared.loss.Sum.the-variants.{Of, Stopped}
-use Rattle.network.specs.Predict.{outputsAt}
-use Rattle.network.specs.Loss.{sumIf, onSum, errorsTo, lossTo, meanOf, soundBatch, lossOf}
+use Rattle.loss.specs.declared.Sum.{Sum}
+use Rattle.loss.specs.declared.Sum.the-variants.{Of, Stopped}
+use Rattle.prediction.specs.Predict.{outputsAt}
+use Rattle.loss.specs.Loss.{sumIf, onSum, errorsTo, lossTo, meanOf, soundBatch, lossOf}
 use Rattle.demands.specs.Silent.{Places}
 use Rattle.demands.specs.Readings.{LossReads}
 use Rattle.demands.proofs.Tests.{past-test, past-checks}

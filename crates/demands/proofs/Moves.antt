@@ -14,9 +14,8 @@ use lib.Ieee.Positive.{positive}
 use Rattle.floats.specs.Binary32.{_⊖_, _⊗_, zero32}
 use Rattle.floats.specs.Sums.{at, allFinite, finiteAt}
 use Rattle.floats.proofs.Sums.{update-zero, update-nan}
-use Rattle.floats.proofs.Loops.{tab-length}
+use Rattle.floats.proofs.Loops.{tab-length, all-each}
 use Rattle.descent.specs.Accumulate.{movedAt, movedFinite, movesFinite, movedOf}
-use Rattle.descent.proofs.Gathered.{all-at}
 use Rattle.demands.specs.Silent.{Places, Differ}
 use Rattle.demands.specs.Alike.{LeftAlike}
 use Rattle.demands.proofs.Tests.{all-same}
@@ -72,7 +71,7 @@ module _ {per : ℕ} {D : Places} {ps qs : List Float} (differ : Differ per D ps
     unfolding movesFinite
     stays p d = elim (set-moved p d) [
       | inl w ↦ w
-      | inr w ↦ absurd (true≢false (sym (all-at (movedFinite ps gs rate) (length ps) p allowed (differ .within p d)) ∙ ap finite (w .0)))
+      | inr w ↦ absurd (true≢false (sym (all-each (movedFinite ps gs rate) (length ps) allowed p (differ .within p d)) ∙ ap finite (w .0)))
     ]
 
     pub moved-left : LeftAlike D ps qs (movedOf ps gs rate) (movedOf qs gs rate)

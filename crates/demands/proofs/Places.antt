@@ -14,11 +14,11 @@ use lib.Ieee.{Float, nan}
 use lib.Ieee.Scale.{finite}
 use Rattle.floats.specs.Sums.{at, allFinite, finiteAt}
 use Rattle.floats.specs.Zeros.{isZero}
+use Rattle.floats.proofs.Loops.{all-each}
 use Rattle.floats.proofs.Sums.{Plain, Swap}
 use Rattle.layers.specs.Basis.{Basis}
 use Rattle.layers.specs.Widths.{widthAt, layerSize, paramsTo}
 use Rattle.rows.specs.Pass.{nodesOf}
-use Rattle.descent.proofs.Gathered.{all-at}
 use Rattle.demands.specs.Silent.{Places, placeOf, Differ, Reaches, RowSilent}
 use Rattle.demands.proofs.Layers.{LayerAlike}
 
@@ -71,7 +71,7 @@ at-coefficient per ws l o i k w ps e =
 -- ---- two models
 pub finite-at : (ps : List Float) (p : ℕ) → allFinite ps ≡ true → p < length ps → T (finite (at ps p))
 unfolding allFinite
-finite-at ps p h l = subst T (sym (all-at (finiteAt ps) (length ps) p h l)) tt
+finite-at ps p h l = subst T (sym (all-each (finiteAt ps) (length ps) h p l)) tt
 
 module _ {per : ℕ} {D : Places} {ps qs : List Float} (differ : Differ per D ps qs) where
   pub within-second : (p : ℕ) → D p ≡ true → p < length qs

@@ -16,9 +16,9 @@ use Rattle.rows.specs.Batch.{rowAt, firstFault, doneTo}
 use Rattle.rows.proofs.Batches.{first-clear, first-before}
 use Rattle.gradients.proofs.Adding.{flat-ext}
 use Rattle.admission.specs.Admission.{refusedWith}
-use Rattle.network.specs.Forward.{passRefusal, passOutputs, unlessRefused}
+use Rattle.single.specs.Forward.{passRefusal, passOutputs, unlessRefused}
 use Rattle.admission.specs.Rows.{refusalAt, rowsOutcome}
-use Rattle.network.specs.Predict.{outputsAt, rowsWritten, outputsFit, predictOutcome, predictWritten}
+use Rattle.prediction.specs.Predict.{outputsAt, rowsWritten, outputsFit, predictOutcome, predictWritten}
 use Rattle.demands.specs.Silent.{Places}
 use Rattle.demands.specs.Readings.{RowReads, PredictReads}
 use Rattle.demands.proofs.Tests.{past-test, past-checks, fault-same, done-same, done-before, done-most}

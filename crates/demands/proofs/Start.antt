@@ -23,13 +23,13 @@ use Rattle.gradients.specs.Gradient.{slotOf, backOf, inputGradient, backLayer, 
 use Rattle.gradients.proofs.Edges.{layer-length}
 use Rattle.descent.specs.Calls.{rowsOf}
 use Rattle.descent.specs.Accumulate.{allPass, gathered, movesFinite, movedOf}
-use Rattle.network.specs.declared.loss.Sum.the-variants.{Stopped}
-use Rattle.network.specs.Forward.{passRefusal, passOutputs, unlessRefused}
+use Rattle.loss.specs.declared.Sum.the-variants.{Stopped}
+use Rattle.single.specs.Forward.{passRefusal, passOutputs, unlessRefused}
 use Rattle.admission.specs.Rows.{stopAt, rowsOutcome}
-use Rattle.network.specs.Predict.{rowsWritten, predictOutcome, predictWritten}
+use Rattle.prediction.specs.Predict.{rowsWritten, predictOutcome, predictWritten}
 use Rattle.marks.specs.Touched.{touches, edgeTouched, nodeTouched, layerTouched, rowTouched, blank}
 use Rattle.visits.specs.Visits.{anyTo, parameters, byteOf, marksOf, rowsMarked, visitOutcome, visitWritten}
-use Rattle.network.specs.Loss.{sumIf, onSum, errorsTo, lossTo, lossOf}
+use Rattle.loss.specs.Loss.{sumIf, onSum, errorsTo, lossTo, lossOf}
 use Rattle.training.specs.Step.{scaleOf, gradientOf, stepFault, stepped}
 use Rattle.training.specs.Train.{modelAfter, faultAt, startFault, trainFault, doneIf, trainDone, trainModel}
 use Rattle.demands.specs.Start.{startingAt}

@@ -13,13 +13,12 @@ use lib.Ieee.Positive.{positive}
 use Rattle.floats.specs.Binary32.{zero32}
 use Rattle.floats.specs.Sums.{at, zeros, sumFrom}
 use Rattle.floats.proofs.Sums.{sum-ext, sum-dead}
-use Rattle.floats.proofs.Loops.{tab-length, tab-ext}
+use Rattle.floats.proofs.Loops.{tab-length, tab-ext, all-each}
 use Rattle.layers.specs.Basis.{Basis}
 use Rattle.layers.specs.Widths.{inputWidth, outputWidth}
 use Rattle.rows.specs.Batch.{rowAt}
 use Rattle.descent.specs.Calls.{rowsOf, Full}
 use Rattle.descent.specs.Accumulate.{passes, allPass, cellOf, gatheredAt, gathered, movesFinite, movedOf}
-use Rattle.descent.proofs.Gathered.{all-at}
 use Rattle.training.specs.Step.{scaleOf, gradientOf, stepFault, stepped}
 use Rattle.demands.specs.Silent.{Places, RowSilent}
 use Rattle.demands.specs.Readings.{StepReads}
@@ -48,7 +47,7 @@ module _ {B : Basis} {ws : List ℕ} {D : Places} {ps qs : List Float} (two : Si
 
     row-passed : (r : ℕ) → r < rowsOf ws xs → passes B ps ws xs r ≡ true
     unfolding allPass
-    row-passed r h = all-at (passes B ps ws xs) (rowsOf ws xs) r passed h
+    row-passed r h = all-each (passes B ps ws xs) (rowsOf ws xs) passed r h
 
     abbrev scale : Float
     scale = scaleOf (rowsOf ws xs * outputWidth ws)

@@ -13,10 +13,10 @@ use Rattle.rows.specs.Pass.{nodesOf}
 use Rattle.rows.specs.Batch.{batchFault}
 use Rattle.config.specs.declared.Outcome.{Outcome}
 use Rattle.admission.specs.Admission.{equipped, furnished}
-use Rattle.network.specs.declared.loss.Loss.{Loss}
-use Rattle.network.specs.Forward.{forwardRefusal, forwardPart, forwardFirst, forwardSecond}
-use Rattle.network.specs.Predict.{outputsFit, Predicted}
-use Rattle.network.specs.Loss.{Lost}
+use Rattle.loss.specs.declared.Loss.{Loss}
+use Rattle.single.specs.Forward.{forwardRefusal, forwardPart, forwardFirst, forwardSecond}
+use Rattle.prediction.specs.Predict.{outputsFit, Predicted}
+use Rattle.loss.specs.Loss.{Lost}
 use Rattle.training.specs.declared.calls.Training.{Training}
 use Rattle.training.specs.Step.{trainingFault}
 use Rattle.training.specs.Train.{Stepped, Trained}

@@ -14,9 +14,9 @@ use Rattle.rows.specs.Batch.{rowAt, firstFault}
 use Rattle.config.specs.declared.Sizes.{Sizes}
 use Rattle.config.specs.declared.Checked.{Checked}
 use Rattle.config.specs.declared.Checked.the-variants.{Sound}
-use Rattle.network.specs.declared.loss.Sum.the-variants.{Of}
+use Rattle.loss.specs.declared.Sum.the-variants.{Of}
 use Rattle.admission.specs.Rows.{refusalAt}
-use Rattle.network.specs.Loss.{lossTo}
+use Rattle.loss.specs.Loss.{lossTo}
 use Rattle.descent.specs.Accumulate.{passes}
 use Rattle.training.specs.Train.{modelAfter, faultAt}
 use Rattle.demands.specs.Silent.{Places, RowSilent}

@@ -8,10 +8,10 @@ use Rattle.floats.specs.Binary32.{minusZero32}
 use Rattle.spline.specs.declared.Grid.{Grid}
 use Rattle.layers.specs.Basis.{Basis, basisOf}
 use Rattle.config.specs.declared.Outcome.{Outcome}
-use Rattle.network.specs.declared.loss.Loss.{Loss}
-use Rattle.network.specs.Forward.{forwardRefusal, forwardPart, forwardFirst, forwardSecond}
-use Rattle.network.specs.Predict.{Predicted}
-use Rattle.network.specs.Loss.{Lost}
+use Rattle.loss.specs.declared.Loss.{Loss}
+use Rattle.single.specs.Forward.{forwardRefusal, forwardPart, forwardFirst, forwardSecond}
+use Rattle.prediction.specs.Predict.{Predicted}
+use Rattle.loss.specs.Loss.{Lost}
 use Rattle.visits.specs.Visits.{Visited}
 use Rattle.training.specs.declared.calls.Training.{Training}
 use Rattle.training.specs.Train.{Stepped, Trained}

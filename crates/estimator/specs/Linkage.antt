@@ -12,12 +12,12 @@ use Rattle.config.specs.declared.Checked.the-variants.{Sound, Refused}
 use Rattle.config.specs.declared.Outcome.{Outcome}
 use Rattle.config.specs.declared.Outcome.the-variants.{Done}
 use Rattle.config.specs.Config.{checkOf, numberOf, carriedOf, outcomeNumberOf, outcomeCarriedOf}
-use Rattle.network.specs.declared.loss.Loss.{Loss}
-use Rattle.network.specs.declared.loss.Loss.the-variants.{Mean, Refused as Not}
+use Rattle.loss.specs.declared.Loss.{Loss}
+use Rattle.loss.specs.declared.Loss.the-variants.{Mean, Refused as Not}
 use Rattle.initial.specs.Initial.{modelInitial}
 use Rattle.admission.specs.Admission.{admitted, equipped, swept, answered, written}
-use Rattle.network.specs.Predict.{predictOutcome, predictWritten}
-use Rattle.network.specs.Loss.{lossNumber, lossOf, lossAnswer}
+use Rattle.prediction.specs.Predict.{predictOutcome, predictWritten}
+use Rattle.loss.specs.Loss.{lossNumber, lossOf, lossAnswer}
 
 abbrev pub gridOf : ℕ → Float → Float → Grid
 gridOf n lo hi = record { intervals = n; lo = lo; hi = hi }

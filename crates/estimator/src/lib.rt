@@ -7,7 +7,7 @@ ghost use Rattle.estimator.specs.Images.{WriteLinked, ReadLinked, Unpack
 use config::Checked;
 use config::Outcome;
 use image::Described;
-use network::Loss;
+use loss::Loss;
 use spline::Grid;
 use training::Training;
 
@@ -50,7 +50,7 @@ pub extern "C" fn kan_initialise(
     ensures { λ r. ⌜ InitialiseLinked (now (widths .entry)) (gridOf intervals lo hi) seed (now (model .entry)) r
         (now (model .exit)) (now (carried .exit)) ⌝ }
 {
-    let outcome = network::initialise(widths, Grid { intervals, lo, hi }, seed, model);
+    let outcome = start::initialise(widths, Grid { intervals, lo, hi }, seed, model);
     match outcome {
         Outcome::Done => {
             *carried = 0;
@@ -80,7 +80,7 @@ pub extern "C" fn kan_predict(
         (now (first .entry)) (now (second .entry)) (now (outputs .entry)) r
         (now (first .exit)) (now (second .exit)) (now (outputs .exit)) (now (carried .exit)) ⌝ }
 {
-    let outcome = network::predict_batch(
+    let outcome = prediction::predict_batch(
         widths,
         Grid { intervals, lo, hi },
         model,
@@ -120,7 +120,7 @@ pub extern "C" fn kan_loss(
         (now (first .entry)) (now (second .entry)) (now (loss .entry)) r
         (now (first .exit)) (now (second .exit)) (now (loss .exit)) (now (carried .exit)) ⌝ }
 {
-    let answer = network::mse_loss(
+    let answer = loss::mse_loss(
         widths,
         Grid { intervals, lo, hi },
         model,

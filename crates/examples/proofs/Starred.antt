@@ -11,7 +11,7 @@ use Rattle.rows.specs.Pass.{nodesOf, nodesFinite, rowFault}
 use Rattle.rows.specs.Batch.{rowsIn, firstFault, doneTo, rowsFault, batchFault}
 use Rattle.config.specs.Config.{checkOf, unless}
 use Rattle.admission.specs.Admission.{admitted, supplied, equipped, furnished}
-use Rattle.network.specs.Loss.{addError, errorsTo, lossTo, lossOf}
+use Rattle.loss.specs.Loss.{addError, errorsTo, lossTo, lossOf}
 use Rattle.gradients.specs.Gradient.{slotOf, backOf, backLayer, layerSlots, upsOf, rowGradient}
 use Rattle.descent.specs.Accumulate.{allPass, gathered, movesFinite, movedOf}
 use Rattle.training.specs.Step.{rateSound, trainingFault, gradientOf, stepFault, stepped}

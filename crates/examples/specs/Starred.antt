@@ -15,8 +15,8 @@ use Rattle.config.specs.declared.Checked.the-variants.{Sound}
 use Rattle.config.specs.declared.Outcome.the-variants.{Done}
 use Rattle.config.specs.Config.{checkOf, refuse}
 use Rattle.admission.specs.Admission.{equipped, furnished, answered, written}
-use Rattle.network.specs.declared.loss.Loss.the-variants.{Mean}
-use Rattle.network.specs.Loss.{lossOf, lossAnswer}
+use Rattle.loss.specs.declared.Loss.the-variants.{Mean}
+use Rattle.loss.specs.Loss.{lossOf, lossAnswer}
 use Rattle.training.specs.Train.{trainFault, trainModel, outcomeOf}
 
 abbrev pub bits : ℕ → Float

@@ -3,5 +3,4 @@ pub fn agrees(tag: u8, words: &[u64]) -> bool {
     leaf_cases::agrees(tag, words)
         | call_cases::agrees(tag, words)
         | forward_cases::agrees(tag, words)
-        | training_cases::agrees(tag, words)
 }

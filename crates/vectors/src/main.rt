@@ -1,10 +1,12 @@
-// Program: runs every case of three lists, the settled examples of the leaves, the oracle's answers and the settled examples of
-// the public calls, against the proved crates, and prints for each list how many cases of each tag agree. Its file `stdout`
-// says that all do.
+// Program: runs every case of three lists, the settled examples of the leaves, the oracle's answers and the settled examples of the
+// configuration, initialisation, prediction and loss,
+// against the proved crates, and prints for each list how many cases of each tag agree. Its file `stdout` says that all do.
 mod cases;
-mod report;
 
 use replay::Line;
+
+// More than any list has.
+const MOST_BYTES: usize = 1_048_576;
 
 // What became of a line. A case is counted under its tag.
 enum Outcome {
@@ -29,49 +31,42 @@ fn run_line(line: &[u8]) -> Outcome {
     }
 }
 
-fn run_list(name: &[u8], text: &[u8]) {
+fn run_list(name: &[u8], file: i32) {
     let mut agree = [0u64; 256];
     let mut differ = [0u64; 256];
+    let mut chunk = [0u8; 4096];
     let mut number = 0;
     let mut at = 0;
-    while at < text.len() {
-        let end = replay::line_end(text, at);
+    while at < MOST_BYTES {
+        let found = case_lists::line_at(file, at, &mut chunk);
+        if !found.some {
+            case_lists::tallies(name, &agree, &differ);
+            return;
+        }
+        let length = found.length;
         number += 1;
-        match run_line(&text[at..end]) {
-            Outcome::Agrees(tag) => report::count(&mut agree, tag),
+        match run_line(&chunk[..length]) {
+            Outcome::Agrees(tag) => case_lists::count(&mut agree, tag),
             Outcome::Differs(tag) => {
-                report::count(&mut differ, tag);
-                report::differs(name, number);
+                case_lists::count(&mut differ, tag);
+                case_lists::differs(name, number);
             }
             Outcome::Skipped => {}
-            Outcome::Malformed => report::malformed(name, number),
+            Outcome::Malformed => case_lists::malformed(name, number),
         }
-        at = end + 1;
+        at += length + 1;
     }
-    report::tallies(name, &agree, &differ);
+    case_lists::unread(name, b"too long");
 }
 
-// One read more than fills the array tells the end of the file from a failed read and from bytes that found no room.
 fn run_file(name: &[u8], path: &[u8]) {
     let file = os::open_read(path);
     if file < 0 {
-        report::unread(name, b"missing");
+        case_lists::unread(name, b"missing");
         return;
     }
-    let mut text = [0u8; 262144];
-    let length = io::read_full(file, &mut text);
-    let mut spare = [0u8; 1];
-    let more = libc::read(file, &mut spare);
+    run_list(name, file);
     libc::close(file);
-    if more < 0 {
-        report::unread(name, b"missing");
-        return;
-    }
-    if more > 0 {
-        report::unread(name, b"too long");
-        return;
-    }
-    run_list(name, &text[..length]);
 }
 
 fn main() {

@@ -17,7 +17,7 @@ const FEWEST_TURNS: usize = 3;
 const GRIDS: [usize; 4] = [5, 16, 64, 256];
 const HEAD: &str = concat!(
     "| shape | g | edges | Rust, ns a row | library | by hand | Rust, ns an edge | library | by hand ",
-    "| library/Rust | by hand/Rust | bits |"
+    "| Rust/library | library/by hand | bits |"
 );
 
 mod linked {
@@ -340,12 +340,12 @@ impl Bench {
         let [rust, proved, hand] = times.map(|time| time / case.rows() as f64);
         let edges = case.edges() as f64;
         println!(
-            "| {widths:?} | {intervals} | {edges} | {rust:.0} | {proved:.0} | {hand:.0} | {:.1} | {:.1} | {:.1} | {:.2} | {:.3} | {} |",
+            "| {widths:?} | {intervals} | {edges} | {rust:.0} | {proved:.0} | {hand:.0} | {:.1} | {:.1} | {:.1} | {:.1} | {:.2} | {} |",
             rust / edges,
             proved / edges,
             hand / edges,
-            proved / rust,
-            hand / rust,
+            rust / proved,
+            proved / hand,
             if alike { "same" } else { "DIFFERENT" }
         );
         self.alike &= alike;

@@ -1,10 +1,17 @@
-//! Writes the stored list of the oracle's answers to standard output.
+//! Writes a stored list of answers to standard output: that of the leaves, or, where it is named, that of the calls on
+//! `images` or of the visit map (`visits`).
 
 use kan_oracle::bits::hex;
+use kan_oracle::cases::Stored;
 use kan_oracle::exponential::exponential;
 use kan_oracle::grids::{accepted_families, refused_family, Family};
 use kan_oracle::inputs::{basis_inputs, exponential_inputs};
+use kan_oracle::models::demand_exact;
 use kan_oracle::ported::{demand_e, root, silu, silu_derivative, Grid};
+use kan_oracle::settled_calls::images::stored_images;
+use kan_oracle::settled_calls::visits::stored_visits;
+use kan_oracle::settled_calls::Chosen;
+use std::process::ExitCode;
 
 const HEADER: &str = "\
 # Answers of the ported Rust (src/network/kan.rs and src/data_structures/spline.rs), built
@@ -18,8 +25,64 @@ const HEADER: &str = "\
 # K g lo hi k0 .. k(g+6)    the knots of a grid of g intervals over [lo, hi]
 # B g lo hi x v0 .. v(g+2) s0 .. s(g+2)    basis values and slopes at x";
 
-fn main() {
+const IMAGES_HEADER: &str = "\
+# Settled cases of the calls on model images, with all that the calls leave in what they are lent. Made by `oracle/lists.sh`: the
+# answers are document 01's and those of calls.md (D89 to D103), held to a reader and a writer of the oracle's own.
+# A line is a tag and lower-case hexadecimal words; f32 numbers are their bits. A configuration is K w0 .. w(K-1) g lo hi. A list
+# is its length and then its numbers; an image is a list of bytes. A call that is accepted has number 0.
+# W configuration model N number carried image    the writer; the N bytes of the image are 55 before
+# H image number carried g lo hi K P    the description; without g to P where it is refused
+# J image number part    the reader: the lent number, and the parameters' bytes; none where it is refused
+# Y image K P number carried widths parameters    unpacking; the K widths are 77 (4d) before, the P parameters 5.0 (40a00000)
+# Z: [1, 1], g 2, [-1, 1], weights 0 and 1, coefficients 0.    A21: [2, 1], g 2, [-1, 1], drawn from seed 7.
+# INF: Z with coefficients 0, 0.25, 0.5, 0.125, infinite.
+# Of D90, which has images of 8 MiB, only 25 carrying 0 is met here; the images themselves are met by the oracle, and 24 and 25 for
+# them are theorems of the crate image_cases.";
+
+const VISITS_HEADER: &str = "\
+# Settled cases of the visit map, with all that the call leaves in what it is lent. Made by `oracle/lists.sh`: the answers are
+# document 01's and those of calls.md (D81 to D88), held to a reading over the ported Rust's basis values.
+# A line is a tag and lower-case hexadecimal words; f32 numbers are their bits. A configuration is K w0 .. w(K-1) g lo hi. A list
+# is its length and then its numbers. A call that is accepted has number 0.
+# V configuration model inputs A B N number carried first second map    the A and B numbers of the two work slices are 9.0 before,
+#   the N bytes of the map 7
+# O, T: training, as in training.txt
+# Z: [1, 1], g 2, [-1, 1], weights 0 and 1, coefficients 0.    A21: [2, 1], g 2, [-1, 1], drawn from seed 7.
+# BIG: Z with base weight 3e38.    INF: Z with coefficients 0, 0.25, 0.5, 0.125, infinite.";
+
+fn main() -> ExitCode {
     demand_e();
+    match std::env::args().nth(1).as_deref() {
+        None => list_leaves(),
+        Some("images") => list_calls(IMAGES_HEADER, stored_images()),
+        Some("visits") => list_calls(VISITS_HEADER, stored_visits()),
+        Some(name) => {
+            eprintln!("lists are named images and visits, and not {name}");
+            return ExitCode::from(2);
+        }
+    }
+    ExitCode::SUCCESS
+}
+
+/// Chosen calls, once the reading was held to what is settled for each.
+fn list_calls<C: Stored>(header: &str, calls: Chosen<C>) {
+    demand_exact();
+    println!("{header}");
+    for settled in calls {
+        let read = settled.call.clone().read();
+        if let Some(fault) = settled.fault(&read) {
+            panic!("{}: {fault}", settled.heading);
+        }
+        if !settled.heading.is_empty() {
+            println!("\n# {}", settled.heading);
+        }
+        for line in settled.call.lines(&read) {
+            println!("{line}");
+        }
+    }
+}
+
+fn list_leaves() {
     println!("{HEADER}");
     list_exponentials();
     list_roots();

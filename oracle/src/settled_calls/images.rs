@@ -1,11 +1,12 @@
 //! Chosen calls of the model image.
 
-use super::{base, grouped, infinite, largest_models, settled, writes};
+use super::{base, chain, grouped, headed, infinite, largest_models, pair, settled, writes};
 use super::{Chosen, Group, Model, Settled, NAN};
 use crate::calls::bits;
 use crate::image_calls::{ImageCall, Kind};
 use crate::lent::Lent;
 use crate::outcomes::Compared;
+use crate::ported::Grid;
 use crate::reading::images::Word::{self, *};
 use crate::reading::images::{self, LONGEST, TRAILER};
 
@@ -15,8 +16,16 @@ const OLD_PARAMETER: f32 = 5.0;
 
 /// All chosen calls of the program `images`; none is large.
 pub fn settled_images(large: bool) -> Chosen<ImageCall> {
-    const USUAL: &[Group<ImageCall>] = &[
+    const UNSTORED: &[Group<ImageCall>] = &[places, longest, largest_networks];
+    Box::new(stored_images().chain(grouped(UNSTORED, &[], large)))
+}
+
+/// Those of them that are stored as cases of the program `model_vectors`.
+pub fn stored_images() -> Chosen<ImageCall> {
+    const STORED: &[Group<ImageCall>] = &[
         writing,
+        refused_writing,
+        faulty_writing,
         good_images,
         other_formats,
         malformed,
@@ -25,10 +34,8 @@ pub fn settled_images(large: bool) -> Chosen<ImageCall> {
         infinite_parameters,
         odd_parameters,
         wrong_rooms,
-        longest,
-        largest_networks,
     ];
-    grouped(USUAL, &[], large)
+    grouped(STORED, &[], false)
 }
 
 /// The image of the paper: [1, 1], g 2, [-1, 1], all parameters 0.0 but spline weight 1.0.
@@ -90,53 +97,154 @@ fn write(model: &Model, length: usize) -> ImageCall {
 }
 
 fn writing() -> Vec<Settled<ImageCall>> {
-    let (zero, inf) = (base(0.0), infinite());
+    let zero = base(0.0);
     let written: Vec<u64> = good().into_iter().map(u64::from).collect();
-    let mut short_model = write(&inf, 67);
-    short_model.model = Lent::new(&inf.parameters[..6]);
-    let mut no_domain = short_model.clone();
-    no_domain.grid.hi = -1.0;
     let mut signed = zero.clone();
     signed.config.grid.lo = -0.0;
     signed.parameters[3] = -0.0;
-    let cases = [
-        (write(&zero, 67), 10),
-        (write(&zero, 69), 10),
-        (write(&zero, 0), 10),
-        (write(&inf, 67), 10),
-        (write(&inf, 68), 11),
-        (short_model, 8),
-        (no_domain, 4),
-    ];
     let mut with_signs = written.clone();
     for (place, byte) in [(15, 0x80), (54, 0x00), (55, 0x80)] {
         with_signs[place] = byte;
     }
-    let mut calls = vec![
-        writes(write(&zero, 68), 0, 0, &written),
-        writes(write(&signed, 68), 0, 0, &with_signs),
+    let deep = chain((-1.0, 1.0), &[[1.0; 7], [-2.0; 7]]);
+    let accepted = [
+        (
+            "Document 01's image is written: [1, 1], g 2, [-1, 1], all parameters 0.0 but spline weight 1.0",
+            writes(write(&zero, 68), 0, 0, &written),
+        ),
+        (
+            "Bits of -0.0 survive, in a coefficient and as lo",
+            writes(write(&signed, 68), 0, 0, &with_signs),
+        ),
+        ("A21 is written", settled(write(&pair(), 96), 0, 0)),
+        (
+            "[1, 1, 1] is written: all parameters 1.0 in layer 0, -2.0 in layer 1",
+            settled(write(&deep, 100), 0, 0),
+        ),
     ];
-    calls.extend(cases.map(|(call, number)| {
-        let unchanged = bits(&call.image);
-        writes(call, number, 0, &unchanged)
-    }));
-    calls
+    let accepted = accepted.into_iter();
+    accepted
+        .flat_map(|(heading, call)| headed(heading, vec![call]))
+        .collect()
+}
+
+fn refused_writing() -> Vec<Settled<ImageCall>> {
+    let (zero, inf) = (base(0.0), infinite());
+    let mut short_model = write(&inf, 67);
+    short_model.model = Lent::new(&inf.parameters[..6]);
+    let mut long_model = short_model.clone();
+    long_model.model = Lent::new(&[0.0; 8]);
+    let mut no_domain = short_model.clone();
+    no_domain.grid.hi = -1.0;
+    let groups = [
+        (
+            "D103: INF with 67 bytes: 10; with 68: 11, and no byte is written",
+            vec![(write(&inf, 67), 10), (write(&inf, 68), 11)],
+        ),
+        (
+            "Z with a byte too few, a byte too many, and none: 10",
+            vec![
+                (write(&zero, 67), 10),
+                (write(&zero, 69), 10),
+                (write(&zero, 0), 10),
+            ],
+        ),
+        (
+            "A model one short, or one long, is 8, before the bytes are 10",
+            vec![(short_model, 8), (long_model, 8)],
+        ),
+        (
+            "The configuration comes before 8: the domain [-1, -1] is 4",
+            vec![(no_domain, 4)],
+        ),
+    ];
+    let refused = groups.into_iter().flat_map(|(heading, cases)| {
+        let calls = cases
+            .into_iter()
+            .map(|(call, number)| unwritten(call, number, 0));
+        headed(heading, calls.collect())
+    });
+    refused.collect()
+}
+
+/// Refused, and no byte is written.
+fn unwritten(call: ImageCall, number: u32, carried: usize) -> Settled<ImageCall> {
+    let unchanged = bits(&call.image);
+    writes(call, number, carried, &unchanged)
+}
+
+/// Every refusal of the configuration, before a model that is short, an image that is short and a parameter that is not finite.
+fn faulty_writing() -> Vec<Settled<ImageCall>> {
+    let (usual, point) = ((-1.0, 1.0), (1.0, 1.0));
+    let (p30, p31, p32) = (1 << 30, 1 << 31, 1 << 32);
+    let cases: [(&[usize], usize, (f32, f32), u32, usize); 10] = [
+        (&[], 1, usual, 1, 0),
+        (&[1], 1, usual, 1, 0),
+        (&[1, 0], 1, usual, 1, 0),
+        (&[p32, p32], 0, usual, 2, 0),
+        (&[1, 1], 0, point, 3, 0),
+        (&[1, 1], 67_108_862, usual, 4, 0),
+        (&[p31, p31], 1, point, 5, 0),
+        (&[p31, p30, p31, p31], 1, usual, 6, 0),
+        (&[1, 1], 249_996, point, 7, 250_001),
+        (&[1, 1], 2, (NAN, 1.0), 4, 0),
+    ];
+    let calls = cases.map(|(widths, intervals, (lo, hi), number, carried)| {
+        let mut call = write(&infinite(), 5);
+        call.widths = Lent::new(widths);
+        call.grid = Grid::new(intervals, lo, hi);
+        call.model = Lent::new(&[f32::INFINITY; 3]);
+        unwritten(call, number, carried)
+    });
+    headed(
+        "Every refusal of the configuration, with a model and an image that are too short and a parameter that is infinite",
+        calls.into(),
+    )
 }
 
 fn good_images() -> Vec<Settled<ImageCall>> {
     let (lo, hi) = (0xbf80_0000, 0x3f80_0000);
     let signed = with(good(), &[(Lo, 0x8000_0000)]);
     let model = [0, 0x3f80_0000, 0, 0, 0, 0, 0];
-    let mut calls = vec![
-        writes(read(&signed), 0, 0, &[2, 0x8000_0000, hi, 2, 7]),
-        writes(unpack(&good(), 2, 7), 0, 0, &[&[1, 1], &model[..]].concat()),
+    let unpacked = [&[1, 1], &model[..]].concat();
+    let two = images::image(&pair().config, &pair().parameters);
+    let groups = [
+        (
+            "Document 01's image: g 2, [-1, 1], 2 widths, 7 parameters",
+            vec![
+                writes(read(&good()), 0, 0, &[2, lo, hi, 2, 7]),
+                writes(unpack(&good(), 2, 7), 0, 0, &unpacked),
+            ],
+        ),
+        (
+            "D102: lo bits 80000000, which stay",
+            vec![
+                writes(read(&signed), 0, 0, &[2, 0x8000_0000, hi, 2, 7]),
+                writes(unpack(&signed, 2, 7), 0, 0, &unpacked),
+            ],
+        ),
+        (
+            "The image of A21: g 2, [-1, 1], 2 widths, 14 parameters",
+            vec![
+                writes(read(&two), 0, 0, &[2, lo, hi, 2, 14]),
+                settled(unpack(&two, 2, 14), 0, 0),
+            ],
+        ),
     ];
-    // The first byte at every place of a word.
-    for front in 5..13 {
+    let groups = groups.into_iter();
+    groups
+        .flat_map(|(heading, calls)| headed(heading, calls))
+        .collect()
+}
+
+/// The first byte at every place of a word.
+fn places() -> Vec<Settled<ImageCall>> {
+    let described = [2, 0xbf80_0000, 0x3f80_0000, 2, 7];
+    let calls = (5..13).map(|front| {
         let call = ImageCall::new(Kind::Read, Lent::behind(front, &good()));
-        calls.push(writes(call, 0, 0, &[2, lo, hi, 2, 7]));
-    }
-    calls
+        writes(call, 0, 0, &described)
+    });
+    calls.collect()
 }
 
 /// The good image behind so many bytes.
@@ -144,102 +252,247 @@ fn moved(count: usize) -> Vec<u8> {
     [vec![0; count], good()].concat()
 }
 
-fn all_refused(cases: &[(Vec<u8>, u32, usize)]) -> Vec<Settled<ImageCall>> {
-    let calls = cases.iter();
-    calls.flat_map(|(b, n, c)| refused(b, *n, *c)).collect()
+/// What the stored lists say of an image, the image, the number and what it carries.
+type Refused = (&'static str, Vec<u8>, u32, usize);
+
+fn all_refused(cases: Vec<Refused>) -> Vec<Settled<ImageCall>> {
+    let calls = cases.into_iter();
+    calls
+        .flat_map(|(heading, bytes, number, carried)| {
+            headed(heading, refused(&bytes, number, carried))
+        })
+        .collect()
 }
 
 fn other_formats() -> Vec<Settled<ImageCall>> {
     let version = |version: u32| with(good(), &[(Version, version), (Degree, 9)]);
-    all_refused(&[
-        (version(2), 25, 2),
-        (version(0), 25, 0),
-        (version(u32::MAX), 25, 0xffff_ffff),
-        (version(1 << 24), 25, 1 << 24),
-        // The last word is no longer the version.
-        ([good(), vec![0]].concat(), 25, 0),
-        (with(good(), &[(Degree, 2), (WidthsDistance, 0)]), 26, 0),
-        (with(good(), &[(Degree, 4), (Intervals, 0)]), 26, 0),
+    let no_widths = with(good(), &[(Degree, 2), (WidthsDistance, 0)]);
+    let behind = [good(), vec![0]].concat();
+    all_refused(vec![
+        ("D91: version 2, degree 9: 25 carrying 2", version(2), 25, 2),
+        ("Version 0", version(0), 25, 0),
+        ("The largest version", version(u32::MAX), 25, 0xffff_ffff),
+        (
+            "A version in the last byte alone",
+            version(1 << 24),
+            25,
+            1 << 24,
+        ),
+        (
+            "A byte behind: the last word is no longer the version",
+            behind,
+            25,
+            0,
+        ),
+        (
+            "32 zero bytes (D90 has as many as an image may have)",
+            vec![0; 32],
+            25,
+            0,
+        ),
+        ("D92: degree 2, widths' distance 0: 26", no_widths, 26, 0),
+        (
+            "Degree 4, g 0",
+            with(good(), &[(Degree, 4), (Intervals, 0)]),
+            26,
+            0,
+        ),
     ])
 }
 
 fn malformed() -> Vec<Settled<ImageCall>> {
     let counted = |count: u32, away: u32| trailer_alone(&[(Widths, count), (WidthsDistance, away)]);
-    all_refused(&[
-        (Vec::new(), 27, 0),
-        (good().split_off(37), 27, 0),
-        (good()[..31].to_vec(), 27, 0),
-        (with(good(), &[(WidthsDistance, 36)]), 27, 0),
-        // 32 + 4K is right only modulo 2^32.
-        (counted(1 << 30, 32), 27, 0),
-        (counted(u32::MAX, 28), 27, 0),
-        (counted(2, 40), 27, 0),
-        (counted(0, 32), 1, 0),
-        (counted(0, 0), 27, 0),
-        (moved(1), 27, 0),
-        (moved(4), 27, 0),
-        (with(moved(4), &[(FirstDistance, 72)]), 27, 0),
-        (good()[4..].to_vec(), 27, 0),
-        (with(good(), &[(FirstDistance, 64)]), 27, 0),
+    let refound = with(moved(4), &[(FirstDistance, 72)]);
+    let near = with(good(), &[(FirstDistance, 64)]);
+    all_refused(vec![
+        ("D89: no byte: 27", Vec::new(), 27, 0),
+        ("D89: the last 31 bytes: 27", good().split_off(37), 27, 0),
+        ("The first 31 bytes", good()[..31].to_vec(), 27, 0),
+        (
+            "D93: widths' distance 36",
+            with(good(), &[(WidthsDistance, 36)]),
+            27,
+            0,
+        ),
+        (
+            "D94: a trailer alone, K 2^30, distance 32: 32 + 4K is right only modulo 2^32",
+            counted(1 << 30, 32),
+            27,
+            0,
+        ),
+        (
+            "K 2^32 - 1, distance 28, in the same way",
+            counted(u32::MAX, 28),
+            27,
+            0,
+        ),
+        (
+            "A trailer alone whose widths would lie before it",
+            counted(2, 40),
+            27,
+            0,
+        ),
+        (
+            "D95: a trailer alone, K 0, distance 32: 1",
+            counted(0, 32),
+            1,
+            0,
+        ),
+        ("D95: the same with distance 0: 27", counted(0, 0), 27, 0),
+        ("D100: a byte more in front", moved(1), 27, 0),
+        ("D100: a word more in front", moved(4), 27, 0),
+        (
+            "A word more in front that the first distance counts",
+            refound,
+            27,
+            0,
+        ),
+        ("A word less in front", good()[4..].to_vec(), 27, 0),
+        ("D100: first distance 64", near, 27, 0),
     ])
 }
 
 fn faulty_configurations() -> Vec<Settled<ImageCall>> {
     let one = 1.0_f32.to_bits();
-    let intervals = |intervals: u32| with(good(), &[(Intervals, intervals)]);
-    let and_domain = |intervals: u32| with(good(), &[(Intervals, intervals), (Lo, one)]);
-    all_refused(&[
-        (with(good(), &[(Widths, 1), (WidthsDistance, 36)]), 1, 0),
-        (with(moved(1), &[(Intervals, 0)]), 3, 0),
-        (with(moved(1), &[(Lo, one)]), 4, 0),
-        (with(good(), &[(Lo, NAN.to_bits())]), 4, 0),
-        (with(good(), &[(Hi, 0x7f80_0000)]), 4, 0),
-        (and_domain(67_108_862), 4, 0),
-        (intervals(u32::MAX), 4, 0),
-        (intervals(67_108_861), 7, 67_108_866),
-        (and_domain(249_996), 7, 250_001),
-        (intervals(249_995), 27, 0),
-        (intervals(3), 27, 0),
+    let of = |words: &[(Word, u32)]| with(good(), words);
+    let intervals = |intervals: u32| of(&[(Intervals, intervals)]);
+    let and_domain = |intervals: u32| of(&[(Intervals, intervals), (Lo, one)]);
+    let one_width = of(&[(Widths, 1), (WidthsDistance, 36)]);
+    let moved_with = |word: Word, value: u32| with(moved(1), &[(word, value)]);
+    all_refused(vec![
+        ("One width, at its distance: 1", one_width, 1, 0),
+        (
+            "D96: g 0 and the length wrong: 3",
+            moved_with(Intervals, 0),
+            3,
+            0,
+        ),
+        (
+            "D97: lo = hi and the length wrong: 4",
+            moved_with(Lo, one),
+            4,
+            0,
+        ),
+        ("lo is NaN", of(&[(Lo, NAN.to_bits())]), 4, 0),
+        ("hi is infinite", of(&[(Hi, 0x7f80_0000)]), 4, 0),
+        (
+            "g 67,108,862: 4 with the domain [-1, 1]",
+            and_domain(67_108_862),
+            4,
+            0,
+        ),
+        ("The largest g", intervals(u32::MAX), 4, 0),
+        ("g 67,108,861: 7", intervals(67_108_861), 7, 67_108_866),
+        (
+            "D98: g 249,996 and lo = hi: 7 carrying 250,001",
+            and_domain(249_996),
+            7,
+            250_001,
+        ),
+        (
+            "g 249,995: as many parameters as may be, and the length is wrong",
+            intervals(249_995),
+            27,
+            0,
+        ),
+        ("g 3: a parameter is missing", intervals(3), 27, 0),
     ])
+}
+
+/// Widths, and a trailer of their number and of these intervals.
+fn of_widths(widths: &[u32], intervals: u32) -> Vec<u8> {
+    let count = widths.len() as u32;
+    let bytes = widths.iter().flat_map(|width| width.to_le_bytes());
+    let words = [
+        (Widths, count),
+        (WidthsDistance, 32 + 4 * count),
+        (Intervals, intervals),
+    ];
+    [bytes.collect(), trailer_alone(&words)].concat()
 }
 
 /// Words of 32 bits as widths.
 fn odd_widths() -> Vec<Settled<ImageCall>> {
-    let of = |widths: &[u32], intervals: u32| {
-        let count = widths.len() as u32;
-        let bytes = widths.iter().flat_map(|width| width.to_le_bytes());
-        let words = [
-            (Widths, count),
-            (WidthsDistance, 32 + 4 * count),
-            (Intervals, intervals),
-        ];
-        [bytes.collect(), trailer_alone(&words)].concat()
-    };
-    let (p30, p31) = (1 << 30, 1 << 31);
-    all_refused(&[
-        (of(&[0, 1], 1), 1, 0),
-        (of(&[1, 1, 0], 0), 1, 0),
-        (of(&[u32::MAX, u32::MAX], 0), 3, 0),
-        (of(&[u32::MAX, u32::MAX], 1), 5, 0),
-        (of(&[p30, p31, p31], 1), 5, 0),
-        (of(&[p31, p30, p31, p31], 1), 6, 0),
-        (of(&[41_667, 1], 1), 7, 250_002),
-        (of(&[1, u32::MAX], 1), 7, 6 * 0xffff_ffff),
-        (of(&[41_666, 1], 1), 27, 0),
-        // All of the longest image but its trailer is widths.
-        (of(&vec![1; (LONGEST - TRAILER) / 4], 1), 7, 12_582_858),
+    let (p30, p31, most) = (1 << 30, 1 << 31, u32::MAX);
+    all_refused(vec![
+        ("The first width is 0", of_widths(&[0, 1], 1), 1, 0),
+        (
+            "The last width is 0, and g too",
+            of_widths(&[1, 1, 0], 0),
+            1,
+            0,
+        ),
+        (
+            "Widths 2^32 - 1 twice, g 0: their product is below 2^64, so 3",
+            of_widths(&[most, most], 0),
+            3,
+            0,
+        ),
+        (
+            "D99: widths 2^32 - 1 twice, g 1: 5",
+            of_widths(&[most, most], 1),
+            5,
+            0,
+        ),
+        (
+            "The second layer is too large by itself: 5",
+            of_widths(&[p30, p31, p31], 1),
+            5,
+            0,
+        ),
+        (
+            "The total is too large at the second layer: 6",
+            of_widths(&[p31, p30, p31, p31], 1),
+            6,
+            0,
+        ),
+        (
+            "250,002 parameters: 7",
+            of_widths(&[41_667, 1], 1),
+            7,
+            250_002,
+        ),
+        (
+            "A width of 2^32 - 1: 7",
+            of_widths(&[1, most], 1),
+            7,
+            6 * 0xffff_ffff,
+        ),
+        (
+            "249,996 parameters, and the length is wrong",
+            of_widths(&[41_666, 1], 1),
+            27,
+            0,
+        ),
     ])
 }
 
 /// The first parameter that is not finite, by its bits; the length and the first distance come before it.
 fn infinite_parameters() -> Vec<Settled<ImageCall>> {
-    let places = [(0, 0x7f80_0000), (4, 0xff80_0000), (12, 0x7f80_0001)];
-    let more = [(20, 0x7fc0_0000), (24, 0xffff_ffff)];
+    let parameters = [
+        (
+            "D101: an infinite base weight: 11; with first distance 64: 27",
+            0,
+            0x7f80_0000,
+        ),
+        ("The spline weight -infinity", 4, 0xff80_0000),
+        (
+            "The second coefficient NaN, of the smallest bits",
+            12,
+            0x7f80_0001,
+        ),
+        ("The fourth coefficient NaN", 20, 0x7fc0_0000),
+        (
+            "The last coefficient NaN, of the largest bits",
+            24,
+            0xffff_ffff,
+        ),
+    ];
     let mut calls = Vec::new();
-    for (place, value) in places.into_iter().chain(more) {
+    for (heading, place, value) in parameters {
         let mut bytes = good();
         put(&mut bytes, place, value);
-        calls.extend(refused(&bytes, 11, 0));
+        calls.extend(headed(heading, refused(&bytes, 11, 0)));
         calls.extend(refused(&with(bytes, &[(FirstDistance, 64)]), 27, 0));
     }
     calls
@@ -255,10 +508,11 @@ fn odd_parameters() -> Vec<Settled<ImageCall>> {
         put(&mut bytes, 4 * place, value);
         unpacked.push(u64::from(value));
     }
-    vec![
+    let calls = vec![
         settled(read(&bytes), 0, 0),
         writes(unpack(&bytes, 2, 7), 0, 0, &unpacked),
-    ]
+    ];
+    headed("The largest parameters, the smallest, and -0.0", calls)
 }
 
 /// The reader's checks come before those of the lent lengths.
@@ -273,16 +527,27 @@ fn wrong_rooms() -> Vec<Settled<ImageCall>> {
             calls.push(writes(call, number, 0, &unchanged));
         }
     }
-    calls
+    headed("Room for another number of widths or of parameters: 10; with an infinite base weight 11, which comes first", calls)
 }
 
 /// About the longest image that is looked at.
 fn longest() -> Vec<Settled<ImageCall>> {
-    all_refused(&[
-        (vec![0; LONGEST + 1], 24, 0),
-        (vec![0; LONGEST], 25, 0),
-        (moved(LONGEST + 1 - 68), 24, 0),
-        (moved(LONGEST - 68), 27, 0),
+    all_refused(vec![
+        ("D90", vec![0; LONGEST + 1], 24, 0),
+        ("D90", vec![0; LONGEST], 25, 0),
+        (
+            "The good image behind zeros",
+            moved(LONGEST + 1 - 68),
+            24,
+            0,
+        ),
+        ("The good image behind zeros", moved(LONGEST - 68), 27, 0),
+        (
+            "All but the trailer is widths",
+            of_widths(&vec![1; (LONGEST - TRAILER) / 4], 1),
+            7,
+            12_582_858,
+        ),
     ])
 }
 

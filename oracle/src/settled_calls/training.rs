@@ -220,7 +220,7 @@ fn infinite_slopes() -> Vec<Settled<Call>> {
 }
 
 /// The last coefficient meets a value of zero and a slope that is not: the first edge's step depends on it.
-fn slopes_beside_zero() -> Vec<Settled<Call>> {
+pub(super) fn slopes_beside_zero() -> Vec<Settled<Call>> {
     let (first, last) = (
         [2e-16, 1.0, 0.0, 0.0, 0.0, 0.0, 0.0],
         [0.5, 1.0, 0.0, 0.0, 0.0, 0.0],

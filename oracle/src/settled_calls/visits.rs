@@ -1,16 +1,24 @@
 //! Chosen calls of the visit map.
 
-use super::{base, chain, grouped, infinite, largest_models, pair, settled, writes};
+use super::training::slopes_beside_zero;
+use super::{base, chain, grouped, headed, infinite, largest_models, pair, settled, writes};
 use super::{Chosen, Group, Model, Settled, NAN};
 use crate::calls::{Call, Kind};
 use crate::lent::Lent;
+use crate::ported::Grid;
 
 const OLD_MARK: u8 = 7;
 
+const SMALL: &[Group<Call>] = &[marks, refusals, faulty_configurations, unlike_slopes];
+
 /// All chosen calls of the program `visits`; none is large.
 pub fn settled_visits(large: bool) -> Chosen<Call> {
-    const USUAL: &[Group<Call>] = &[marks, refusals, unlike_slopes, largest_networks];
-    grouped(USUAL, &[], large)
+    Box::new(grouped(SMALL, &[], false).chain(grouped(&[largest_networks], &[], large)))
+}
+
+/// Those of them that are stored as cases of the program `model_vectors`, and the training that two of them speak of.
+pub fn stored_visits() -> Chosen<Call> {
+    Box::new(grouped(SMALL, &[], false).chain(grouped(&[trained_slopes], &[], false)))
 }
 
 impl Model {
@@ -20,6 +28,13 @@ impl Model {
         call.map = Lent::new(&vec![OLD_MARK; self.config.parameters()]);
         call
     }
+}
+
+fn all_headed(calls: Vec<(&'static str, Settled<Call>)>) -> Vec<Settled<Call>> {
+    let calls = calls.into_iter();
+    calls
+        .flat_map(|(heading, call)| headed(heading, vec![call]))
+        .collect()
 }
 
 fn maps(call: Call, map: &[u64]) -> Settled<Call> {
@@ -34,19 +49,37 @@ fn refused(call: Call, (number, carried): (u32, usize), cell: u8) -> Settled<Cal
 
 fn marks() -> Vec<Settled<Call>> {
     let (zero, two) = (base(0.0), pair());
+    let at = |x: f32, map: &[u64]| maps(zero.visits(&[x]), map);
     let middle = [1, 1, 0, 1, 1, 1, 0];
     let outside = [1, 1, 0, 0, 0, 0, 0];
-    vec![
-        maps(zero.visits(&[0.0]), &middle),
-        maps(zero.visits(&[1e-16]), &middle),
-        maps(zero.visits(&[4.0]), &outside),
-        maps(zero.visits(&[-4.0]), &outside),
-        maps(zero.visits(&[4.0, 0.0, -5.0]), &middle),
-        maps(zero.visits(&[]), &[0; 7]),
-        maps(two.visits(&[0.0, 9.0]), &[middle, outside].concat()),
-        maps(two.visits(&[9.0, 0.0]), &[outside, middle].concat()),
-        maps(two.visits(&[]), &[0; 14]),
-    ]
+    let rows = maps(zero.visits(&[4.0, 0.0, -5.0]), &middle);
+    let (left, right) = ([middle, outside].concat(), [outside, middle].concat());
+    all_headed(vec![
+        (
+            "Z at 0: the first basis value and the last are 0 there",
+            at(0.0, &middle),
+        ),
+        (
+            "D81: Z at 1e-16: the last basis value rounds to 0, though its slope is not 0",
+            at(1e-16, &middle),
+        ),
+        (
+            "D82: Z at 4 and at -4, outside all knots: the weights alone",
+            at(4.0, &outside),
+        ),
+        ("", at(-4.0, &outside)),
+        ("Three rows: what any of them touches", rows),
+        (
+            "D83: no rows: nothing is touched, the weights neither",
+            maps(zero.visits(&[]), &[0; 7]),
+        ),
+        (
+            "A21: each edge by its own input",
+            maps(two.visits(&[0.0, 9.0]), &left),
+        ),
+        ("", maps(two.visits(&[9.0, 0.0]), &right)),
+        ("A21, no rows", maps(two.visits(&[]), &[0; 14])),
+    ])
 }
 
 fn refusals() -> Vec<Settled<Call>> {
@@ -57,38 +90,118 @@ fn refusals() -> Vec<Settled<Call>> {
     long_map.map = Lent::new(&[OLD_MARK; 8]);
     let mut short_work = no_map.clone();
     short_work.second = Lent::null();
+    let mut short_first = no_map.clone();
+    short_first.first = Lent::null();
     let mut short_model = short_work.clone();
     short_model.model = Lent::new(&zero.parameters[..6]);
-    let mut no_intervals = short_model.clone();
-    no_intervals.grid.intervals = 0;
-    vec![
-        refused(zero.visits(&[0.0, NAN]), (15, 1), 0),
-        refused(zero.visits(&[NAN, 0.0]), (15, 0), 0),
-        refused(inf.visits(&[NAN]), (11, 0), OLD_MARK),
-        refused(no_map, (10, 0), OLD_MARK),
-        refused(long_map, (10, 0), OLD_MARK),
-        refused(short_work, (9, 0), OLD_MARK),
-        refused(short_model, (8, 0), OLD_MARK),
-        refused(no_intervals, (3, 0), OLD_MARK),
-        refused(big.visits(&[0.0, 100.0]), (20, 1), 0),
-        refused(big.visits(&[0.0, 100.0, NAN]), (20, 1), 0),
-        refused(two.visits(&[0.5, 0.5, 0.5]), (14, 1), 0),
-        refused(two.visits(&[0.5, 0.5, NAN]), (14, 1), 0),
-        refused(two.visits(&[NAN, 0.5, 0.5]), (15, 0), 0),
-    ]
+    let batch = |inputs: &[f32]| two.visits(inputs);
+    all_headed(vec![
+        (
+            "D84: Z at 0 and NaN: 15 carrying 1, and no mark stays",
+            refused(zero.visits(&[0.0, NAN]), (15, 1), 0),
+        ),
+        (
+            "NaN in row 0",
+            refused(zero.visits(&[NAN, 0.0]), (15, 0), 0),
+        ),
+        (
+            "D85: INF at NaN: 11, and the map is unchanged",
+            refused(inf.visits(&[NAN]), (11, 0), OLD_MARK),
+        ),
+        (
+            "D85: the same with a map of 6 bytes: 10, and it is unchanged",
+            refused(no_map, (10, 0), OLD_MARK),
+        ),
+        (
+            "A map of 8 bytes for 7 parameters",
+            refused(long_map, (10, 0), OLD_MARK),
+        ),
+        (
+            "No second work slice is 9, before the map is 10; nothing is touched",
+            refused(short_work, (9, 0), OLD_MARK),
+        ),
+        (
+            "No first work slice",
+            refused(short_first, (9, 0), OLD_MARK),
+        ),
+        (
+            "A model one short is 8, before the work is 9",
+            refused(short_model, (8, 0), OLD_MARK),
+        ),
+        (
+            "D86: BIG at 0 and 100: 20 carrying 1, and no mark stays",
+            refused(big.visits(&[0.0, 100.0]), (20, 1), 0),
+        ),
+        (
+            "Row 1 is 20, before row 2 is 15",
+            refused(big.visits(&[0.0, 100.0, NAN]), (20, 1), 0),
+        ),
+        (
+            "A21: a short last row is 14 carrying 1, before its NaN is 15",
+            refused(batch(&[0.5; 3]), (14, 1), 0),
+        ),
+        ("", refused(batch(&[0.5, 0.5, NAN]), (14, 1), 0)),
+        (
+            "A21: NaN in row 0 is 15, before the short last row",
+            refused(batch(&[NAN, 0.5, 0.5]), (15, 0), 0),
+        ),
+    ])
+}
+
+/// Every refusal of the configuration, before a model that is short, work that is not there, and a map that is short.
+fn faulty_configurations() -> Vec<Settled<Call>> {
+    let (usual, point) = ((-1.0, 1.0), (1.0, 1.0));
+    let (p30, p31, p32) = (1 << 30, 1 << 31, 1 << 32);
+    let cases: [(&[usize], usize, (f32, f32), u32, usize); 10] = [
+        (&[], 1, usual, 1, 0),
+        (&[1], 1, usual, 1, 0),
+        (&[1, 0], 1, usual, 1, 0),
+        (&[p32, p32], 0, usual, 2, 0),
+        (&[1, 1], 0, point, 3, 0),
+        (&[1, 1], 67_108_862, usual, 4, 0),
+        (&[p31, p31], 1, point, 5, 0),
+        (&[p31, p30, p31, p31], 1, usual, 6, 0),
+        (&[1, 1], 249_996, point, 7, 250_001),
+        (&[1, 1], 2, (NAN, 1.0), 4, 0),
+    ];
+    let calls = cases.map(|(widths, intervals, (lo, hi), number, carried)| {
+        let mut call = Call::new(Kind::Visits, widths, Grid::new(intervals, lo, hi));
+        call.model = Lent::new(&[f32::INFINITY; 3]);
+        call.inputs = Lent::new(&[NAN]);
+        call.map = Lent::new(&[OLD_MARK; 2]);
+        refused(call, (number, carried), OLD_MARK)
+    });
+    headed(
+        "Every refusal of the configuration, with a model and a map that are too short, no work, an infinite parameter and NaN",
+        calls.into(),
+    )
 }
 
 /// A value of zero beside a slope that is not, and slopes that are infinite or NaN.
 fn unlike_slopes() -> Vec<Settled<Call>> {
     let plain = [0.0, 1.0, 0.0, 0.0, 0.0, 0.0, 0.0];
     let small = [2e-16, 1.0, 0.0, 0.0, 0.0, 0.0, 0.0];
-    let underflow = chain((-1.0, 1.0), &[small, plain]);
+    let half = [0.5, 1.0, 0.0, 0.0, 0.0, 0.0, 0.0];
+    let huge = [0.5, 1.0, 0.0, 0.0, 0.0, 0.0, 1e38];
     let narrow = chain((0.0, 2e-40), &[plain; 2]);
     let marks = [1, 1, 0, 0, 1, 1, 1, 1, 1, 0, 1, 1, 1, 0];
-    vec![
-        maps(underflow.visits(&[1.0]), &marks),
-        maps(narrow.visits(&[0.0]), &[1, 1, 1, 1, 1, 0, 0].repeat(2)),
-    ]
+    let after = |layer: [f32; 7]| maps(chain((-1.0, 1.0), &[small, layer]).visits(&[1.0]), &marks);
+    all_headed(vec![
+        ("D87: [1, 1, 1], base weights 2e-16 and 0.5, at 1: the last coefficient, 0 or 1e38, is not touched", after(half)),
+        ("", after(huge)),
+        ("The same with base weight 0 in layer 1", after(plain)),
+        (
+            "D88: [1, 1, 1], domain [0, 2e-40], at 0: slopes are infinite or NaN, values are not",
+            maps(narrow.visits(&[0.0]), &[1, 1, 1, 1, 1, 0, 0].repeat(2)),
+        ),
+    ])
+}
+
+fn trained_slopes() -> Vec<Settled<Call>> {
+    headed(
+        "D87, a step of training and training of one step: the first parameter depends on the last, which the map does not mark",
+        slopes_beside_zero(),
+    )
 }
 
 fn largest_networks() -> Vec<Settled<Call>> {

@@ -1,0 +1,3 @@
+pub mod Errors
+pub mod Losses
+pub mod Determined

@@ -1,5 +1,0 @@
-pub mod Predict
-pub mod Loss
-pub mod Forward
-pub mod Steps
-pub mod Start

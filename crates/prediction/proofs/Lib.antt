@@ -1,0 +1,4 @@
+pub mod Outputs
+pub mod Rows
+pub mod Calls
+pub mod Determined

@@ -90,11 +90,17 @@ fn up(grid: Grid, width: f32, x: f32, start: usize) -> usize
     at
 }
 
-// The interval that holds x, which lies between the first knot and the last.
+// The interval that holds x, which lies between the first knot and the last. The guess is tested before any search: the loops
+// are for inputs on a knot or beside one.
 pub fn interval(grid: Grid, width: f32, x: f32) -> usize
     requires { ⌜ (grid .intervals ≤ 250000) × (width ≡ widthOf grid) × (calmOf grid ≡ true) × (outsideOf grid x ≡ false) ⌝ }
     ensures { λ r. ⌜ Holds grid x r ⌝ }
 {
-    let start = down(grid, width, x, guess(grid, width, x));
-    up(grid, width, x, start)
+    let near = guess(grid, width, x);
+    if knot_at(grid, width, near) <= x {
+        if x < knot_at(grid, width, near + 1) {
+            return near;
+        }
+    }
+    up(grid, width, x, down(grid, width, x, near))
 }

@@ -1,7 +1,7 @@
 -- What the two calls of this crate ask and promise. Definitions only.
 use Prim.Native.Nat.{ℕ, _+_, _-_, _*_, _≤_, _<_}
 use mathlib.Core.Path.{_≡_}
-use mathlib.Core.Bool.{Bool, cond}
+use mathlib.Core.Bool.{Bool, true, cond}
 use mathlib.Core.List.{List}
 use lib.ListN.{length, drop}
 use lib.Ieee.{Float}
@@ -37,11 +37,11 @@ pub record Sound (ws : List ℕ) (xs ts : List Float) : Type 0 where
   pub inputs : Full (inputWidth ws) xs (rowsOf ws xs)
   pub targets : Full (outputWidth ws) ts (rowsOf ws xs)
 
--- whether every row passes 20, the gradients with all rows added or else as they were, and the work beyond 2N as it was
+-- whether every row passes 20, then the gradients with all rows added, and the work beyond 2N as it was
 pub record Accumulated (B : Basis) (ps : List Float) (ws : List ℕ) (xs ts : List Float) (scale : Float) (gs W gs′ W′ : List Float)
     (r : Bool) : Type 0 where
   pub passed : r ≡ allPass B ps ws xs (rowsOf ws xs)
-  pub gradients : gs′ ≡ cond r (gathered B ps ws xs ts (outputWidth ws) scale gs (rowsOf ws xs)) gs
+  pub gradients : r ≡ true → gs′ ≡ gathered B ps ws xs ts (outputWidth ws) scale gs (rowsOf ws xs)
   pub rest : drop (twoN ws) W′ ≡ drop (twoN ws) W
 
 -- whether every updated parameter is finite (23), and the model updated or else as it was

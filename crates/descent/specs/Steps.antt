@@ -9,7 +9,8 @@ use Rattle.floats.specs.Places.{partAt}
 use Rattle.layers.specs.Basis.{Basis}
 use Rattle.layers.specs.Widths.{widthAt, paramsTo, widthsTo}
 use Rattle.rows.specs.Pass.{nodesOf, nodesFinite}
-use Rattle.gradients.specs.Gradient.{layerSlots, upsOf}
+use Rattle.gradients.specs.Steps.{plusOf}
+use Rattle.gradients.specs.Gradient.{layerSlots, upsOf, rowGradient}
 use Rattle.descent.specs.Calls.{twoN}
 
 -- ---- a row in the work: the node values from 0 on, their gradients from N on, each layer's after those of the one before
@@ -41,11 +42,9 @@ slotsIn B ps ws W l =
     layerSlots B (drop (paramsTo (B .stride) ws l) ps) (partAt W (widthsTo ws l) (widthAt ws l))
     (partAt W (upAt ws (l + 1)) (widthAt ws (l + 1)))
 
--- the gradients are as wanted, or a test answers so, and the work beyond 2N is as it was
-pub record Added (want gs′ : List Float) (ws : List ℕ) (W W′ : List Float) : Type 0 where
-  pub gradients : gs′ ≡ want
-  pub rest : drop (twoN ws) W′ ≡ drop (twoN ws) W
-
-pub record Tested (want r : Bool) (ws : List ℕ) (W W′ : List Float) : Type 0 where
-  pub passed : r ≡ want
+-- a row: whether its nodes are finite, then its gradients added, and the work beyond 2N as it was
+pub record RowAdded (B : Basis) (ps : List Float) (ws : List ℕ) (xs ts : List Float) (scale : Float) (gs W gs′ W′ : List Float)
+    (r : Bool) : Type 0 where
+  pub finite : r ≡ nodesFinite B ps ws xs
+  pub gradients : r ≡ true → gs′ ≡ plusOf gs (rowGradient B ps ws xs ts scale)
   pub rest : drop (twoN ws) W′ ≡ drop (twoN ws) W

@@ -10,12 +10,11 @@ ghost use Rattle.exponential.specs.Steps.{Powers};
 ghost use Rattle.support.specs.Support.{Finite};
 ghost use Rattle.layers.specs.Basis.{basisOf, Basis};
 ghost use Rattle.layers.specs.Widths.{inputWidth, outputWidth, widthsTo};
-ghost use Rattle.rows.specs.Pass.{nodesFinite};
-ghost use Rattle.gradients.specs.Gradient.{outputGradient, rowGradient};
+ghost use Rattle.gradients.specs.Gradient.{outputGradient};
 ghost use Rattle.gradients.specs.Steps.{plusOf};
 ghost use Rattle.swift_additions.specs.Adding.{Clean};
 ghost use Rattle.descent.specs.Calls.{Fits};
-ghost use Rattle.descent.specs.Steps.{Nodes, Forwarded, Backed, slotsIn, Added};
+ghost use Rattle.descent.specs.Steps.{Nodes, Forwarded, Backed, slotsIn, RowAdded};
 use spline::Grid;
 
 // N, the number of nodes.
@@ -31,7 +30,7 @@ fn node_count(widths: &[usize]) -> usize
 }
 
 // All layers forward, up to the first value that is not finite.
-pub fn forward(
+fn forward(
     grid: Grid,
     table: &[u32; 256],
     widths: &[usize],
@@ -152,7 +151,7 @@ fn add_layers(
     }
 }
 
-// Adds the gradients of a row whose nodes are finite.
+// Adds a row's gradients, unless a node value of it is not finite (20): then they are as they were. Answers whether it did.
 pub fn add_row(
     grid: Grid,
     table: &[u32; 256],
@@ -163,16 +162,17 @@ pub fn add_row(
     scale: f32,
     gradients: &mut [f32],
     work: &mut [f32],
-)
+) -> bool
     requires { ⌜ Fits grid (now model) (now widths) (now work) × (length (now gradients) ≡ length (now model))
         × (length (now row) ≡ inputWidth (now widths)) × (length (now targets) ≡ outputWidth (now widths))
-        × (nodesFinite (basisOf grid) (now model) (now widths) (now row) ≡ true)
         × Powers (now table) × Finite (length (now model)) (now model) × Clean (length (now gradients)) (now gradients) ⌝ }
-    ensures { λ _. ⌜ Added (plusOf (now (gradients .entry))
-        (rowGradient (basisOf grid) (now (model .entry)) (now (widths .entry)) (now (row .entry)) (now (targets .entry)) scale))
-        (now (gradients .exit)) (now (widths .entry)) (now (work .entry)) (now (work .exit)) ⌝ }
+    ensures { λ r. ⌜ RowAdded (basisOf grid) (now (model .entry)) (now (widths .entry)) (now (row .entry)) (now (targets .entry)) scale
+        (now (gradients .entry)) (now (work .entry)) (now (gradients .exit)) (now (work .exit)) r ⌝ }
 {
-    forward(grid, table, widths, model, row, work);
+    if !forward(grid, table, widths, model, row, work) {
+        return false;
+    }
     backward(grid, table, widths, model, targets, scale, work);
     add_layers(grid, table, widths, model, work, gradients);
+    true
 }

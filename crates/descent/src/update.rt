@@ -9,12 +9,11 @@ fn moves_finite(model: &[f32], gradients: &[f32], rate: f32) -> bool
     requires { ⌜ length (now model) ≤ length (now gradients) ⌝ }
     ensures { λ r. ⌜ r ≡ movesFinite (now (model .entry)) (now (gradients .entry)) rate ⌝ }
 {
+    let mut sound = true;
     for i in 0..model.len() {
-        if !floats::is_finite(model[i] - rate * gradients[i]) {
-            return false;
-        }
+        sound = sound & floats::is_finite(model[i] - rate * gradients[i]);
     }
-    true
+    sound
 }
 
 fn move_all(model: &mut [f32], gradients: &[f32], rate: f32)

@@ -57,8 +57,7 @@ module _ (B : Basis) (ws : List ℕ) (ps xs ts : List Float) where
         passed = a .passed;
         gradients = λ e.
             take-at ys (drop m gs₁) n k
-            ∙ a .gradients
-            ∙ ap (λ (t : Bool). cond t (gathered B ps ws xs ts (outputWidth ws) (scaleOf (length ts)) (take m gs₁) (rowsOf ws xs)) (take m gs₁)) e
+            ∙ a .gradients e
             ∙ ap (λ (l : List Float). gathered B ps ws xs ts (outputWidth ws) (scaleOf (length ts)) l (rowsOf ws xs)) front
             ∙ ap (λ (m : ℕ). gathered B ps ws xs ts (outputWidth ws) (scaleOf m) (zeros n) (rowsOf ws xs)) (targets-count b);
         rests = record { gradients = drop-at ys (drop m gs₁) n k ∙ behind; work = a .rest };

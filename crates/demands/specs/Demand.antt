@@ -61,4 +61,5 @@ pub record Demand (ws : List ℕ) (g : Grid) (D : Places) (ps qs : List Float) :
       → (Admitted (furnished ws g (length ps) (length gs) (length W)) → trainingFault ws xs ts rate ≡ 0
       → TrainReads (basisOf g) ws D ps xs ts rate steps)
       → (r s : Training) (ps′ gs′ W′ qs′ gs″ W″ : List Float) → Trained (basisOf g) ws g ps xs ts rate gs W steps r ps′ gs′ W′
-      → Trained (basisOf g) ws g qs xs ts rate gs W steps s qs′ gs″ W″ → (r ≡ s) × LeftAlike D ps qs ps′ qs′ × (gs′ ≡ gs″) × (W′ ≡ W″)
+      → Trained (basisOf g) ws g qs xs ts rate gs W steps s qs′ gs″ W″
+      → (r ≡ s) × LeftAlike D ps qs ps′ qs′ × (gs′ ≡ gs″) × (W′ ≡ W″)

@@ -41,15 +41,18 @@ module _ (R : RattleType) (κ κ′ : Lft) (q : Share) (γ : GName) (b o : ℕ) 
     vals = sliceVal (b, o) (length ys) ∷ []
 
     pub lends-again : ent 𝓤 (sep 𝓤 (sem 𝓤 H A (MutSlice ℓ κ R .own (at-list γ ys) vals)) (A .lft κ q))
-        (H .⇛ (ex 𝓤 (λ (γ₁ : GName). sep 𝓤 (sem 𝓤 H A (MutSlice ℓ′ κ′ R .own (at-list γ₁ ys) vals)) (sem 𝓤 H A (LentAgain γ₁ ys)))))
+        (H .⇛ (ex 𝓤 (λ (γ₁ : GName). sep 𝓤 (sem 𝓤 H A (MutSlice ℓ′ κ′ R .own (at-list γ₁ ys) vals))
+        (sem 𝓤 H A (LentAgain γ₁ ys)))))
     lends-again =
         qed W (‵ (MutSlice ℓ κ R .own (at-list γ ys) vals) ∷ ‵ (flft κ q) ∷ []) ∵ updating ! $ fsplit ! $
         pureL ! (at-slice R (at-list γ ys) vals) (λ p. fsplit ! $ opens-slice ! tt R ys b o $
         use1 W (‵ (cells (mem R) ys b o)) (whole-in 𝓤 H A W R ys b o) $
-        use1 W (later (some (λ (γ₁ : GName). ‵ (MutSlice ℓ′ κ′ R .own (at-list γ₁ ys) vals) ⊛ ‵ (flent κ′ (Held R (length ys) b o γ₁)))))
+        use1 W (later (some (λ (γ₁ : GName). ‵ (MutSlice ℓ′ κ′ R .own (at-list γ₁ ys) vals)
+        ⊛ ‵ (flent κ′ (Held R (length ys) b o γ₁)))))
         (lends-slice 𝓤 H A W R ℓ′ κ′ ys b o (p .1)) $ await ! tt $ pick ! (λ γ₁. split ! $
         -- [the new slice; the lender's part at κ′; the open borrow at κ; obs γ; auth γ]
-        at-once ! $ show ! (λ (γ′ : GName). sep 𝓤 (sem 𝓤 H A (MutSlice ℓ′ κ′ R .own (at-list γ′ ys) vals)) (sem 𝓤 H A (LentAgain γ′ ys)))
+        at-once ! $ show ! (λ (γ′ : GName). sep 𝓤 (sem 𝓤 H A (MutSlice ℓ′ κ′ R .own (at-list γ′ ys) vals))
+        (sem 𝓤 H A (LentAgain γ′ ys)))
         γ₁ $ frame ! $
         move ! (2 ∷ 3 ∷ []) $ fjoin ! $ move ! (2 ∷ 0 ∷ []) $ fjoin ! $ move ! (1 ∷ 0 ∷ []) $ fjoin ! $ done !))
 

@@ -114,7 +114,8 @@ rows-none p f ds (suc n) = rows-none p f ds n ∙ sym (from-none (p n) (plusEach
 
 module _ (row a s : ℕ) (f h : ℕ → List Float) (F : (o : ℕ) → length (f o) ≡ a) (H : (o : ℕ) → length (h o) ≡ s) (fit : a + s ≤ row) where
   rows-more : (ds : List Float) (n : ℕ) → n * row ≤ length ds
-      → plusEach (λ (o : ℕ). o * row + a) h (plusEach (λ (o : ℕ). o * row) f ds n) n ≡ plusEach (λ (o : ℕ). o * row) (λ (o : ℕ). f o ++ h o) ds n
+      → plusEach (λ (o : ℕ). o * row + a) h (plusEach (λ (o : ℕ). o * row) f ds n) n
+      ≡ plusEach (λ (o : ℕ). o * row) (λ (o : ℕ). f o ++ h o) ds n
   unfolding plusEach
   rows-more ds zero k = refl
   rows-more ds (suc n) k =

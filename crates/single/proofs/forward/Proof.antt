@@ -244,7 +244,8 @@ module _ {M : Type 1} (𝓤 : URA M) (H : Heap 𝓤) (A : Atoms 𝓤) (W : Given
     to-work = ((κs′, qs′, tt, arg δa δb, at), tt)
 
     abbrev Asks : List (Item 𝓤)
-    Asks = Quiet ∷ ‵ (flft κ₁ q₁) ∷ Token₁ ∷ Token₂ ∷ Number ∷ Shared ∷ First (ν₁ ∷ []) δa xs ∷ Second (ν₂ ∷ []) δb ys ∷ []
+    Asks = Quiet ∷ ‵ (flft κ₁ q₁) ∷ Token₁ ∷ Token₂ ∷ Number ∷ Shared ∷
+        First (ν₁ ∷ []) δa xs ∷ Second (ν₂ ∷ []) δb ys ∷ []
 
     goes-work : ent 𝓤 (⋆ 𝓤 H A Asks) (WorkC 𝓤 H A mem run .pre to-work)
     goes-work =
@@ -269,7 +270,8 @@ module _ {M : Type 1} (𝓤 : URA M) (H : Heap 𝓤) (A : Atoms 𝓤) (W : Given
 
     -- the tokens as `work` hands them back, and the last values as its `ensures` binds them
     abbrev Tokens : Item 𝓤
-    Tokens = ‵ (flft κ₀ q₀) ⊛ (‵ (flft κ₁ q₁) ⊛ (‵ (flft κ₂ q₂) ⊛ (‵ (flft κ₃ q₃) ⊛ (Token₁ ⊛ (Token₂ ⊛ ‵ ftrue)))))
+    Tokens = ‵ (flft κ₀ q₀) ⊛ (‵ (flft κ₁ q₁) ⊛ (‵ (flft κ₂ q₂) ⊛ (‵ (flft κ₃ q₃) ⊛
+        (Token₁ ⊛ (Token₂ ⊛ ‵ ftrue)))))
 
     abbrev Ensured : ℕ → SProp 𝓤
     Ensured n = ensured 𝓤 H A work.ended (work.clauses 𝓤 H A mem run) κs′ (arg δa δb) tt n
@@ -309,7 +311,8 @@ module _ {M : Type 1} (𝓤 : URA M) (H : Heap 𝓤) (A : Atoms 𝓤) (W : Given
 
   goes-lies : ent 𝓤 (⋆ 𝓤 H A (‵ (flft κ₁ q₁) ∷ Shared ∷ [])) (LiesC 𝓤 H A mem run .pre to-lies)
   goes-lies =
-      qed W (‵ (flft κ₁ q₁) ∷ Shared ∷ []) ∵ suffices ! Entry (via 𝓤 (sep 𝓤 (emp 𝓤) Entry) (emp∗ 𝓤 Entry) (comm∗ 𝓤 (emp 𝓤) Entry)) $
+      qed W (‵ (flft κ₁ q₁) ∷ Shared ∷ []) ∵
+      suffices ! Entry (via 𝓤 (sep 𝓤 (emp 𝓤) Entry) (emp∗ 𝓤 Entry) (comm∗ 𝓤 (emp 𝓤) Entry)) $
       nothing ! $ move ! (1 ∷ 0 ∷ []) $ group ! 2 $ frame ! $ split ! $ nothing ! $ keep ! (1 ∷ 0 ∷ []) $ done !
     where
       Entry : SProp 𝓤
@@ -324,7 +327,8 @@ module _ {M : Type 1} (𝓤 : URA M) (H : Heap 𝓤) (A : Atoms 𝓤) (W : Given
   gives-lies : (w : Val) → ent 𝓤 (LiesC 𝓤 H A mem run .post to-lies w) (mean 𝓤 H A (Told w))
   gives-lies w =
       qed W (raw (LiesC 𝓤 H A mem run .post to-lies w) ∷ []) ∵ updating ! $
-      use1 W (later (some (λ (f : Bool). ((‵ (flft κ₁ q₁) ⊛ ‵ ftrue) ⊛ ‵ (Boolean .own f (w ∷ []))) ⊛ raw (LiesEnsured f)))) (id⊢ 𝓤 _) $
+      use1 W (later (some (λ (f : Bool). ((‵ (flft κ₁ q₁) ⊛ ‵ ftrue) ⊛ ‵ (Boolean .own f (w ∷ [])))
+      ⊛ raw (LiesEnsured f)))) (id⊢ 𝓤 _) $
       await ! tt $ picks ! (λ f. split ! $ move ! (1 ∷ []) $
       use1 W (some (λ (zs : Unit {0} × Unit {0}). ‵ (lasts lies.ended (κ₁, tt) (wx, tt) zs) ⊛ raw (fact 𝓤 (f ≡ here)))) (id⊢ 𝓤 _) $
       picks ! (λ zs. split ! $ move ! (1 ∷ []) $ heard ! (f ≡ here) (λ e.

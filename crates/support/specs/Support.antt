@@ -13,6 +13,7 @@ use Rattle.floats.specs.Zeros.{isZero, Alike}
 use Rattle.spline.specs.declared.Grid.{Grid}
 use Rattle.spline.specs.Spline.{widthOf, knotOf, portionOf, valueOf, slopeOf}
 use Rattle.support.specs.declared.Four.{Four}
+use Rattle.support.specs.declared.triangle.Squares.{Squares}
 
 -- the width is above zero and the span of the knots is finite: then so is every difference among knots and inputs
 unfoldable pub calmOf : Grid → Bool
@@ -58,6 +59,18 @@ cubeThird g a x =
 
 unfoldable pub cubeFourth : Grid → ℕ → Float → Float
 cubeFourth g a x = portionOf (x ⊖ knotOf g a) (squareHigh g a x) (knotOf g (a + 3) ⊖ knotOf g a)
+
+-- the six knots about x, and the three values of degree 2
+pub record SquaresAt (g : Grid) (x : Float) (a : ℕ) (r : Squares) : Type 0 where
+  pub k1 : r .k1 ≡ knotOf g (a - 2)
+  pub k2 : r .k2 ≡ knotOf g (a - 1)
+  pub k3 : r .k3 ≡ knotOf g a
+  pub k4 : r .k4 ≡ knotOf g (a + 1)
+  pub k5 : r .k5 ≡ knotOf g (a + 2)
+  pub k6 : r .k6 ≡ knotOf g (a + 3)
+  pub low : r .low ≡ squareLow g a x
+  pub middle : r .middle ≡ squareMiddle g a x
+  pub high : r .high ≡ squareHigh g a x
 
 -- the three quotients of which the four slopes are differences
 abbrev pub riseLow : Grid → ℕ → Float → Float

@@ -3,5 +3,4 @@ pub mod Tests
 pub mod Totals
 pub mod Folded
 pub mod Sized
-pub mod Examples
 pub mod Determined

@@ -6,6 +6,8 @@ cd "$(dirname "$0")/.."
 
 log=$(mktemp)
 trap 'rm -f "$log"' EXIT
+# rt waits for a whole batch of proofs before it starts the next: one more than there are processors fills the wait
+export RT_JOBS=${RT_JOBS:-$(($(nproc) + 1))}
 rt fmt --check
 rt ci | tee "$log"
 oracle/quick.sh

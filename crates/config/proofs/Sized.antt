@@ -12,11 +12,12 @@ use Rattle.spline.specs.declared.Grid.{Grid}
 use Rattle.config.specs.declared.Checked.the-variants.{Sound}
 use Rattle.config.specs.declared.Sizes.{Sizes}
 use Rattle.floats.specs.Sums.{allTo}
-use Rattle.layers.specs.Widths.{widthAt, layerSize, paramsTo, widestTo, widthsTo}
+use Rattle.layers.specs.Widths.{layerSize, paramsTo, widestTo, widthsTo}
+use Rattle.layers.proofs.Widths.{params-room}
 use Rattle.config.specs.Config.{checkOf, someWide, shapeSound, intervalsSound, endsSound, stepsSound}
 use Rattle.config.specs.Sized.{Sized}
 use Rattle.config.proofs.Tests.{both-true, holds, intervals-between, ends-finite, passed}
-use Rattle.config.proofs.Totals.{small-of, positive-at, layer-below, width-below, widest-at, widest-within}
+use Rattle.config.proofs.Totals.{small-of, positive-at, widest-at, widest-within}
 
 -- ---- what the checks that were passed say
 record Passed (ws : List ℕ) (g : Grid) (s : Sizes) : Type 0 where
@@ -72,19 +73,12 @@ sized ws g s h =
       fewNodes = rw (p .sizes) (few .1);
     }
 
--- ---- rooms: layer l of the flat model, and the nodes of width j, lie within all of them
+-- ---- layer l lies within the flat model
 pub layer-room : (per : ℕ) (ws : List ℕ) (l : ℕ) → suc l < length ws
     → paramsTo per ws l + layerSize per ws l ≤ paramsTo per ws (length ws - 1)
-layer-room per ws l h = layer-below per ws l (length ws - 1) (omega arith)
+layer-room per ws l h = params-room per ws l (length ws - 1) (omega arith)
 
-pub widths-room : (ws : List ℕ) (j : ℕ) → j < length ws → widthsTo ws j + widthAt ws j ≤ widthsTo ws (length ws)
-widths-room ws j h = width-below ws j (length ws) h
-
--- the same within the P and the N of an accepted configuration
+-- the same within the P of an accepted configuration
 pub layer-within : (ws : List ℕ) (g : Grid) (s : Sizes) → Sized ws g s → (l : ℕ) → suc l < length ws
     → paramsTo (g .intervals + 5) ws l + layerSize (g .intervals + 5) ws l ≤ s .parameters
 layer-within ws g s z l h = rw (z .parameters) (layer-room (g .intervals + 5) ws l h)
-
-pub width-within : (ws : List ℕ) (g : Grid) (s : Sizes) → Sized ws g s → (j : ℕ) → j < length ws
-    → widthsTo ws j + widthAt ws j ≤ s .nodes
-width-within ws g s z j h = rw (z .nodes) (widths-room ws j h)

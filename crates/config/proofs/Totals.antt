@@ -1,6 +1,6 @@
 -- What the running sums of a list of widths are bounded by. Assumes nothing.
 use Prim.Native.Nat.{ℕ, zero, suc, _+_, _-_, _*_, _≤_, _<_}
-use native.Mathlib.Nat.{le-refl, le-trans, le-of-eq, le-step, le-max-left, le-max-right, le-add-left, le-add-right, add-le-add}
+use native.Mathlib.Nat.{le-refl, le-trans, le-of-eq, le-step, le-max-left, le-max-right, le-add-left, add-le-add}
 use native.Mathlib.Nat.{eq-or-lt-of-le, le-of-suc-le-suc, mul-pos, mul-comm, mul-assoc, mul-le-mul-left, le-mul-of-pos-right}
 use native.Mathlib.Numerals.{add-one, sub-one}
 use native.Mathlib.Decide.{le-ind}
@@ -11,7 +11,8 @@ use mathlib.Core.Logic.{⊎-elim}
 use mathlib.Core.List.{List}
 use borrow.Author.Tests.{not-true, eqb-false}
 use Rattle.floats.specs.Sums.{allTo}
-use Rattle.layers.specs.Widths.{widthAt, layerSize, paramsTo, widestTo, widthsTo}
+use Rattle.layers.specs.Widths.{widthAt, paramsTo, widestTo, widthsTo}
+use Rattle.layers.proofs.Widths.{params-room}
 use Rattle.config.specs.Config.{someWide}
 use Rattle.config.proofs.Tests.{both-true}
 
@@ -31,16 +32,7 @@ positive-at ws n h j l =
 rising : (s : ℕ → ℕ) → ((n : ℕ) → s n ≤ s (suc n)) → (m n : ℕ) → m ≤ n → s m ≤ s n
 rising s up m n h = le-ind (λ k. s m ≤ s k) (le-refl (s m)) (λ k _ ih. le-trans ih (up k)) n h
 
--- layer l lies within the first n
-pub layer-below : (per : ℕ) (ws : List ℕ) (l n : ℕ) → l < n → paramsTo per ws l + layerSize per ws l ≤ paramsTo per ws n
-unfolding paramsTo
-layer-below per ws l n h = rising (paramsTo per ws) (λ k. le-add-right (paramsTo per ws k) (layerSize per ws k)) (suc l) n h
-
--- the nodes of width j lie within the first n
-pub width-below : (ws : List ℕ) (j n : ℕ) → j < n → widthsTo ws j + widthAt ws j ≤ widthsTo ws n
-unfolding widthsTo
-width-below ws j n h = rising (widthsTo ws) (λ k. le-add-right (widthsTo ws k) (widthAt ws k)) (suc j) n h
-
+-- no width is above the widest
 pub widest-at : (ws : List ℕ) (j n : ℕ) → j < n → widthAt ws j ≤ widestTo ws n
 unfolding widestTo
 widest-at ws j n h =
@@ -59,7 +51,7 @@ times-more m n h = le-trans (le-mul-of-pos-right n h) (le-of-eq (mul-comm n m))
 pub edge-within : (per : ℕ) (ws : List ℕ) (n : ℕ) → 0 < widthAt ws 0 → 0 < widthAt ws 1 → per ≤ paramsTo per ws (suc n)
 edge-within per ws n a b =
     le-trans (le-trans (times-more (widthAt ws 0) per a) (times-more (widthAt ws 1) (widthAt ws 0 * per) b))
-    (le-trans (le-add-left _ (paramsTo per ws 0)) (layer-below per ws 0 (suc n) (omega arith)))
+    (le-trans (le-add-left _ (paramsTo per ws 0)) (params-room per ws 0 (suc n) (omega arith)))
 
 -- two neighbours, and then each further width
 pair-within : (per a b : ℕ) → 2 ≤ per → 0 < a → 0 < b → a + b ≤ b * (a * per)

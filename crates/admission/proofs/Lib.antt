@@ -1,3 +1,2 @@
-pub mod Admitted
-pub mod Halves
-pub mod Rows
+pub mod Steps
+pub mod Passed

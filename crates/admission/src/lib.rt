@@ -1,13 +1,14 @@
 // Inner crate: the checks that every call on a model makes first. Each takes all arguments.
 ghost use mathlib.Core.Path.{_≡_};
-ghost use Rattle.admission.specs.Admission.{admitted, equipped, furnished};
+ghost use Rattle.config.specs.Config.{sizesOf, checkedOf};
+ghost use Rattle.admission.specs.Admission.{upTo8, upTo9, upTo9InTraining};
 use config::Checked;
-use config::Refusal;
+use refusals::Refusal;
 use spline::Grid;
 
 // The configuration, then 8.
-pub fn admit(widths: &[usize], grid: Grid, model: usize) -> Checked
-    ensures { λ r. ⌜ r ≡ admitted (now (widths .entry)) grid model ⌝ }
+pub fn check_model(widths: &[usize], grid: Grid, model: usize) -> Checked
+    ensures { λ r. ⌜ r ≡ checkedOf (upTo8 (now (widths .entry)) grid model) (sizesOf (now (widths .entry)) grid) ⌝ }
 {
     let checked = config::check(widths, grid);
     match checked {
@@ -26,10 +27,17 @@ pub fn admit(widths: &[usize], grid: Grid, model: usize) -> Checked
 }
 
 // Then 9, for two work slices of at least W numbers each.
-pub fn equip(widths: &[usize], grid: Grid, model: usize, first: usize, second: usize) -> Checked
-    ensures { λ r. ⌜ r ≡ equipped (now (widths .entry)) grid model first second ⌝ }
+pub fn check_work(
+    widths: &[usize],
+    grid: Grid,
+    model: usize,
+    first: usize,
+    second: usize,
+) -> Checked
+    ensures { λ r. ⌜ r
+        ≡ checkedOf (upTo9 (now (widths .entry)) grid model first second) (sizesOf (now (widths .entry)) grid) ⌝ }
 {
-    let checked = admit(widths, grid, model);
+    let checked = check_model(widths, grid, model);
     match checked {
         Checked::Refused(refusal) => Checked::Refused(refusal),
         Checked::Sound(sizes) => {
@@ -47,10 +55,17 @@ pub fn equip(widths: &[usize], grid: Grid, model: usize, first: usize, second: u
 }
 
 // 9 for training: P gradients and 2N numbers of work.
-pub fn furnish(widths: &[usize], grid: Grid, model: usize, gradients: usize, work: usize) -> Checked
-    ensures { λ r. ⌜ r ≡ furnished (now (widths .entry)) grid model gradients work ⌝ }
+pub fn check_training_work(
+    widths: &[usize],
+    grid: Grid,
+    model: usize,
+    gradients: usize,
+    work: usize,
+) -> Checked
+    ensures { λ r. ⌜ r
+        ≡ checkedOf (upTo9InTraining (now (widths .entry)) grid model gradients work) (sizesOf (now (widths .entry)) grid) ⌝ }
 {
-    let checked = admit(widths, grid, model);
+    let checked = check_model(widths, grid, model);
     match checked {
         Checked::Refused(refusal) => Checked::Refused(refusal),
         Checked::Sound(sizes) => {

@@ -57,7 +57,7 @@ fn initialise_meets(
     seed: u64,
     model: &mut [f32],
 ) -> bool {
-    let outcome = start::initialise(widths, grid, seed, model);
+    let outcome = initialisation::initialise(widths, grid, seed, model);
     let answered = at.meet_outcome(words, outcome);
     answered.meet_floats(words, model).is_end(words)
 }
@@ -172,7 +172,7 @@ fn drawn_predict_lent(
     model: &mut [f32],
     inputs: &[f32],
 ) -> bool {
-    start::initialise(widths, grid, seed.word(words), model);
+    initialisation::initialise(widths, grid, seed.word(words), model);
     predict_lent(words, at, widths, grid, model, inputs)
 }
 

@@ -1,7 +1,7 @@
 // A place in the words of a case. It holds all that was read or met before it: once a word is missing, or other than it must
 // be, the cursor is unsound for good, so that only the end of a case has to be asked.
-use config::Outcome;
-use config::Refusal;
+use refusals::Outcome;
+use refusals::Refusal;
 use replay::same_bits;
 
 pub struct Cursor {

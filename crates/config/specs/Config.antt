@@ -2,57 +2,24 @@
 -- domain [-1, 1], where 5 and 6 are taken layer by layer, 5 first; then the given domain (only 4 is possible)".
 -- Definitions only.
 use Prim.Native.Nat.{ℕ, zero, suc, _+_, _-_, _*_, _^_}
-use mathlib.Core.Bool.{Bool, true, false, cond, not, _&&_}
+use mathlib.Core.Bool.{Bool, cond, not, _&&_}
 use mathlib.Core.List.{List}
 use lib.Dec.{leb, ltb, eqb}
 use lib.ListN.{length}
 use lib.Ieee.{le}
 use lib.Ieee.Scale.{finite}
 use Rattle.floats.specs.Binary32.{_⊕_, _⊖_, _⊗_, zero32, three32}
+use Rattle.floats.specs.Sums.{allTo}
+use Rattle.refusals.specs.declared.Refusal.{Refusal}
+use Rattle.refusals.specs.Refusals.{_otherwise_, _then_, firstTo, none}
 use Rattle.spline.specs.declared.Grid.{Grid}
 use Rattle.spline.specs.Spline.{widthOf}
+use Rattle.layers.specs.Widths.{widthAt, layerSize, paramsTo, parametersIn, widestIn, nodesIn}
+use Rattle.config.specs.declared.Sizes.{Sizes}
 use Rattle.config.specs.declared.Checked.{Checked}
 use Rattle.config.specs.declared.Checked.the-variants.{Sound, Refused}
-use Rattle.config.specs.declared.Outcome.{Outcome}
-use Rattle.config.specs.declared.Outcome.the-variants.{Done, Refused as Undone}
 use Rattle.config.specs.declared.Counted.{Counted}
 use Rattle.config.specs.declared.Counted.the-variants.{Parameters, Refused as Uncounted}
-use Rattle.floats.specs.Sums.{allTo}
-use Rattle.layers.specs.Widths.{widthAt, layerSize, paramsTo, widestTo, widthsTo}
-
--- ---- document 01's number and value of each case of an answer
-abbrev pub numberOf : Checked → ℕ
-numberOf (Sound s) = 0
-numberOf (Refused r) = r .number
-
-abbrev pub carriedOf : Checked → ℕ
-carriedOf (Sound s) = 0
-carriedOf (Refused r) = r .carried
-
-abbrev pub countNumberOf : Counted → ℕ
-countNumberOf (Parameters n) = 0
-countNumberOf (Uncounted r) = r .number
-
-abbrev pub countCarriedOf : Counted → ℕ
-countCarriedOf (Parameters n) = 0
-countCarriedOf (Uncounted r) = r .carried
-
-abbrev pub outcomeNumberOf : Outcome → ℕ
-outcomeNumberOf Done = 0
-outcomeNumberOf (Undone r) = r .number
-
-abbrev pub outcomeCarriedOf : Outcome → ℕ
-outcomeCarriedOf Done = 0
-outcomeCarriedOf (Undone r) = r .carried
-
--- ---- a row of checks
-abbrev pub refuse : ℕ → ℕ → Checked
-refuse n c = Refused (record { number = n; carried = c })
-
--- a check: go on where the test passes, and else the refusal
-unfoldable pub unless : Bool → Checked → Checked → Checked
-unless true r next = next
-unless false r next = r
 
 -- ---- 1: "fewer than two widths, or a zero width"
 abbrev pub someWide : List ℕ → ℕ → Bool
@@ -78,14 +45,9 @@ intervalsSound g = leb 1 g && leb g (2 ^ 63 - 8)
 unfoldable pub movesMinusOne : ℕ → Bool
 movesMinusOne g = ltb g 67108862
 
--- 5, 6: "one layer's, or the running total's, parameter count is 2^64 or more": the first of them among n layers, 0 for none
-unfoldable pub overflowTo : ℕ → List ℕ → ℕ → ℕ
-unfolding paramsTo
-overflowTo per ws zero = 0
-overflowTo per ws (suc n) =
-    cond (eqb (overflowTo per ws n) 0)
-    (cond (ltb (layerSize per ws n) (2 ^ 64)) (cond (ltb (paramsTo per ws (suc n)) (2 ^ 64)) 0 6) 5)
-    (overflowTo per ws n)
+-- 5, 6: "one layer's, or the running total's, parameter count is 2^64 or more", of layer l
+abbrev pub sizeFault : ℕ → List ℕ → ℕ → ℕ
+sizeFault per ws l = ltb (layerSize per ws l) (2 ^ 64) otherwise 5 then ltb (paramsTo per ws (l + 1)) (2 ^ 64) otherwise 6
 
 -- 4 for the given domain: the `InvalidDomain` conditions of 000, for at most 250,000 intervals
 unfoldable pub endsSound : Grid → Bool
@@ -101,22 +63,37 @@ stepsSound g =
     && not (le (g .lo) a) && not (le b (g .hi))
 
 -- ---- all checks in their order
-unfoldable pub checkOf : List ℕ → Grid → Checked
-unfolding shapeSound productsFit intervalsSound movesMinusOne overflowTo paramsTo endsSound stepsSound widestTo widthsTo
-checkOf ws g =
-    let layers = length ws - 1 in
-    let per = g .intervals + 5 in
-    let total = paramsTo per ws layers in
-    unless (shapeSound ws) (refuse 1 0)
-    (unless (productsFit ws) (refuse 2 0)
-    (unless (intervalsSound (g .intervals)) (refuse 3 0)
-    (unless (movesMinusOne (g .intervals)) (refuse 4 0)
-    (unless (eqb (overflowTo per ws layers) 0) (refuse (overflowTo per ws layers) 0)
-    (unless (leb total 250000) (refuse 7 total)
-    (unless (endsSound g && stepsSound g) (refuse 4 0)
-    (Sound (record { parameters = total; widest = widestTo ws (length ws); nodes = widthsTo ws (length ws) }))))))))
+unfoldable pub configFault : List ℕ → Grid → ℕ
+configFault ws g =
+    shapeSound ws otherwise 1
+    then productsFit ws otherwise 2
+    then intervalsSound (g .intervals) otherwise 3
+    then movesMinusOne (g .intervals) otherwise 4
+    then firstTo (sizeFault (g .intervals + 5) ws) (length ws - 1)
+    then leb (parametersIn (g .intervals + 5) ws) 250000 otherwise 7
+    then (endsSound g && stepsSound g) otherwise 4
 
--- ---- `parameter_count` answers P, or is refused alike
+-- ---- answers: the sizes that an accepted configuration has, or the refusal, of which 7 "carries the total"
+abbrev pub sizesOf : List ℕ → Grid → Sizes
+sizesOf ws g = record { parameters = parametersIn (g .intervals + 5) ws; widest = widestIn ws; nodes = nodesIn ws }
+
+abbrev pub carriedBy : ℕ → ℕ → ℕ
+carriedBy n total = cond (eqb n 7) total 0
+
+abbrev pub checkedOf : ℕ → Sizes → Checked
+checkedOf zero s = Sound s
+checkedOf (suc n) s = Refused (record { number = suc n; carried = carriedBy (suc n) (s .parameters) })
+
+-- `check`
+abbrev pub checkOf : List ℕ → Grid → Checked
+checkOf ws g = checkedOf (configFault ws g) (sizesOf ws g)
+
+-- `parameter_count` answers P, or is refused alike
 abbrev pub countOf : Checked → Counted
 countOf (Sound s) = Parameters (s .parameters)
 countOf (Refused r) = Uncounted r
+
+-- the refusal that an answer is
+abbrev pub checkedRefusal : Checked → Refusal
+checkedRefusal (Sound s) = none
+checkedRefusal (Refused r) = r

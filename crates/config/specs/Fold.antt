@@ -1,12 +1,12 @@
--- What the fold over the widths promises, step by step. No part of the checks' meaning: proofs/Folded.antt ties each field
--- of the state to the plain definitions of Widths.antt and Config.antt. Definitions only.
+-- What the fold over the widths promises, step by step. No part of the checks' meaning: proofs/Folded.antt ties each
+-- field of the state to the plain definitions of Widths.antt and Config.antt. Definitions only.
 use Prim.Native.Nat.{ℕ, zero, suc, _+_, _-_, _*_, _^_, max, min}
 use mathlib.Core.Bool.{Bool, true, false, cond, not, _&&_, _||_}
 use mathlib.Core.List.{List}
 use lib.Dec.{leb, ltb, eqb}
+use Rattle.refusals.specs.Refusals.{_otherwise_, _then_}
 use Rattle.spline.specs.declared.Grid.{Grid}
 use Rattle.config.specs.declared.Checked.{Checked}
-use Rattle.config.specs.declared.Checked.the-variants.{Sound, Refused}
 use Rattle.config.specs.declared.Counted.{Counted}
 use Rattle.config.specs.declared.Counted.the-variants.{Parameters, Refused as Uncounted}
 use Rattle.config.specs.declared.Shape.{Shape}
@@ -14,7 +14,7 @@ use Rattle.config.specs.declared.Sizes.{Sizes}
 use Rattle.config.specs.declared.Whole.{Whole}
 use Rattle.config.specs.declared.Whole.the-variants.{Below, TooLarge}
 use Rattle.layers.specs.Widths.{widthAt}
-use Rattle.config.specs.Config.{refuse, unless, intervalsSound, movesMinusOne, endsSound, stepsSound}
+use Rattle.config.specs.Config.{intervalsSound, movesMinusOne, endsSound, stepsSound, checkedOf}
 
 -- ---- one step
 -- a whole number as the machine holds it: itself below 2^64
@@ -73,27 +73,38 @@ unfoldable pub shapeTo : ℕ → List ℕ → ℕ → Shape
 shapeTo per ws zero = emptyShape
 shapeTo per ws (suc n) = stepOf per (shapeTo per ws n) (widthAt ws n)
 
--- the running total as the plain definitions have it: `overflowTo`, and where that is 0 `paramsTo`
+-- the running total as the plain definitions have it: the first of 5 and 6, and where there is none `paramsTo`
 unfoldable pub totalOf : ℕ → ℕ → Counted
 totalOf zero total = Parameters total
 totalOf (suc n) total = uncount (suc n)
 
--- ---- the answer from the last state, in the order of `checkOf`
+-- ---- the answer from the last state, in the order of `configFault`
 -- 4 for the given domain; no list of widths passes 7 with more intervals than 250,000
 unfoldable pub domainSound : Grid → Bool
 domainSound g = leb (g .intervals) 250000 && (endsSound g && stepsSound g)
 
-unfoldable pub sizedOf : Sizes → Grid → Checked
-sizedOf s g = unless (leb (s .parameters) 250000) (refuse 7 (s .parameters)) (unless (domainSound g) (refuse 4 0) (Sound s))
+unfoldable pub limitsFault : ℕ → Grid → ℕ
+limitsFault total g = leb total 250000 otherwise 7 then domainSound g otherwise 4
 
-abbrev pub countedOf : Counted → ℕ → ℕ → Grid → Checked
-countedOf (Uncounted r) widest nodes g = Refused r
-countedOf (Parameters p) widest nodes g = sizedOf (record { parameters = p; widest = widest; nodes = nodes }) g
+abbrev pub countedFault : Counted → Grid → ℕ
+countedFault (Uncounted r) g = r .number
+countedFault (Parameters total) g = limitsFault total g
+
+unfoldable pub shapeFault : Shape → ℕ → Grid → ℕ
+shapeFault s count g =
+    not (ltb count 2 || s .zero) otherwise 1
+    then not (s .wide) otherwise 2
+    then intervalsSound (g .intervals) otherwise 3
+    then movesMinusOne (g .intervals) otherwise 4
+    then countedFault (s .total) g
+
+-- the sizes, with no parameters where the total is refused
+abbrev pub counted : Counted → ℕ
+counted (Uncounted r) = 0
+counted (Parameters total) = total
+
+abbrev pub shapeSizes : Shape → Sizes
+shapeSizes s = record { parameters = counted (s .total); widest = s .widest; nodes = s .nodes }
 
 unfoldable pub verdictOf : Shape → ℕ → Grid → Checked
-verdictOf s count g =
-    unless (not (ltb count 2 || s .zero)) (refuse 1 0)
-    (unless (not (s .wide)) (refuse 2 0)
-    (unless (intervalsSound (g .intervals)) (refuse 3 0)
-    (unless (movesMinusOne (g .intervals)) (refuse 4 0)
-    (countedOf (s .total) (s .widest) (s .nodes) g))))
+verdictOf s count g = checkedOf (shapeFault s count g) (shapeSizes s)

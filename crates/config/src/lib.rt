@@ -1,16 +1,11 @@
 // Public crate: the configuration checks of document 01, numbers 1 to 7 and 4, and the sizes that an accepted one has.
 ghost use mathlib.Core.Path.{_≡_};
 ghost use Prim.Native.Nat.{_+_, _*_, _-_, _^_, _≤_, max, min};
-ghost use Rattle.config.specs.Config.{refuse, intervalsSound, endsSound, stepsSound, checkOf, countOf};
+ghost use Rattle.config.specs.Config.{intervalsSound, endsSound, stepsSound, checkedOf, checkOf, countOf};
 ghost use Rattle.config.specs.Fold.{wholeOf, isTooLarge, layerOf, uncount, addLayer, emptyShape, stepOf, perEdgeOf};
-ghost use Rattle.config.specs.Fold.{domainSound, sizedOf, verdictOf};
+ghost use Rattle.config.specs.Fold.{domainSound, limitsFault, shapeFault, counted, verdictOf};
+use refusals::Refusal;
 use spline::Grid;
-
-// What a refused call says: document 01's number, and what that number carries (0 where it carries nothing).
-pub struct Refusal {
-    pub number: u32,
-    pub carried: usize,
-}
 
 // P, W and N of document 01: all parameters, the largest width, the sum of the widths.
 pub struct Sizes {
@@ -21,12 +16,6 @@ pub struct Sizes {
 
 pub enum Checked {
     Sound(Sizes),
-    Refused(Refusal),
-}
-
-// The answer of a call that gives nothing but what it wrote.
-pub enum Outcome {
-    Done,
     Refused(Refusal),
 }
 
@@ -143,12 +132,6 @@ fn add_layer(total: Counted, layer: Whole) -> Counted
     Counted::Parameters(after)
 }
 
-fn refused(number: u32, carried: usize) -> Checked
-    ensures { λ r. ⌜ r ≡ refuse number carried ⌝ }
-{
-    Checked::Refused(Refusal { number, carried })
-}
-
 fn intervals_sound(intervals: usize) -> bool
     ensures { λ r. ⌜ r ≡ intervalsSound intervals ⌝ }
 {
@@ -190,18 +173,40 @@ fn domain_sound(grid: Grid) -> bool
     ends_sound(grid) & steps_sound(grid)
 }
 
-// The last two checks: 7, and then 4 for the given domain.
-fn within_limits(sizes: Sizes, grid: Grid) -> Checked
-    ensures { λ r. ⌜ r ≡ sizedOf sizes grid ⌝ }
+// The last two checks, 7 and then 4 for the given domain: the number of the first that refuses, or 0.
+fn limits_fault(total: usize, grid: Grid) -> u32
+    ensures { λ r. ⌜ r ≡ limitsFault total grid ⌝ }
 {
     let sound = domain_sound(grid);
-    if sizes.parameters > MOST_PARAMETERS {
-        return refused(7, sizes.parameters);
+    if total > MOST_PARAMETERS {
+        return 7;
     }
-    if sound {
-        Checked::Sound(sizes)
-    } else {
-        refused(4, 0)
+    if sound { 0 } else { 4 }
+}
+
+// The answer to a configuration of these sizes: accepted where the number of its refusal is 0. 7 carries the total.
+fn answer(number: u32, sizes: Sizes) -> Checked
+    ensures { λ r. ⌜ r ≡ checkedOf number sizes ⌝ }
+{
+    if number == 0 {
+        return Checked::Sound(sizes);
+    }
+    if number == 7 {
+        return Checked::Refused(Refusal {
+            number,
+            carried: sizes.parameters,
+        });
+    }
+    Checked::Refused(Refusal { number, carried: 0 })
+}
+
+// The parameters counted, or 0 where their count is refused.
+fn parameters_counted(total: Counted) -> usize
+    ensures { λ r. ⌜ r ≡ counted total ⌝ }
+{
+    match total {
+        Counted::Parameters(parameters) => parameters,
+        Counted::Refused(_) => 0,
     }
 }
 
@@ -247,35 +252,42 @@ impl Shape {
         }
     }
 
-    // The answer once all `count` widths are taken. The given domain comes last, after all that is asked with [-1, 1].
-    pub fn verdict(self, count: usize, grid: Grid) -> Checked
-        ensures { λ r. ⌜ r ≡ verdictOf self count grid ⌝ }
+    // The first refusal once all `count` widths are taken, or 0. The given domain comes last, after all that is asked
+    // with [-1, 1].
+    fn fault(self, count: usize, grid: Grid) -> u32
+        ensures { λ r. ⌜ r ≡ shapeFault self count grid ⌝ }
     {
         let some_grid = intervals_sound(grid.intervals);
         if (count < 2) | self.zero {
-            return refused(1, 0);
+            return 1;
         }
         if self.wide {
-            return refused(2, 0);
+            return 2;
         }
         if !some_grid {
-            return refused(3, 0);
+            return 3;
         }
         if grid.intervals >= STUCK_INTERVALS {
-            return refused(4, 0);
+            return 4;
         }
         let total = self.total;
         match total {
-            Counted::Refused(refusal) => Checked::Refused(refusal),
-            Counted::Parameters(parameters) => {
-                let sizes = Sizes {
-                    parameters,
-                    widest: self.widest,
-                    nodes: self.nodes,
-                };
-                within_limits(sizes, grid)
-            }
+            Counted::Refused(refusal) => refusal.number,
+            Counted::Parameters(parameters) => limits_fault(parameters, grid),
         }
+    }
+
+    // The answer once all `count` widths are taken.
+    pub fn verdict(self, count: usize, grid: Grid) -> Checked
+        ensures { λ r. ⌜ r ≡ verdictOf self count grid ⌝ }
+    {
+        let total = self.total;
+        let sizes = Sizes {
+            parameters: parameters_counted(total),
+            widest: self.widest,
+            nodes: self.nodes,
+        };
+        answer(self.fault(count, grid), sizes)
     }
 }
 

@@ -14,7 +14,6 @@ use Rattle.floats.proofs.Loops.{tab-length, tab-get, flat-length}
 use Rattle.layers.specs.Basis.{Basis}
 use Rattle.gradients.specs.Gradient.{slotOf, edgeSlots, nodeSlots, layerSlots}
 use Rattle.gradients.proofs.Edges.{node-length}
-use Rattle.demands.specs.Start.{startingAt}
 
 -- a relation of two numbers at a place
 abbrev pub Relation : Type 1
@@ -72,18 +71,29 @@ cells-flat R past f h (suc n) sizes each =
     (cells-flat R past f h n before (λ j l. each j (omega arith))) (each n (lt-suc-self n))
 
 -- ---- what the parameters of a layer receive, from two starts of `dot`
+abbrev pub beginningAt : Basis → Float → Basis
+beginningAt B a = record {
+  coefficients = B .coefficients;
+  stride = B .stride;
+  value = B .value;
+  slope = B .slope;
+  silu = B .silu;
+  siluSlope = B .siluSlope;
+  start = a;
+}
+
 pub cells-layer : (R : Relation) → ((p : ℕ) → R p nan nan) → (B : Basis) (a b : Float) (ps xs ups : List Float)
     → ((o i s : ℕ) → o < length ups → i < length xs → s < B .stride
     → R (o * (length xs * B .stride) + (i * B .stride + s))
-    (slotOf (startingAt B a) (drop (i * B .stride) (drop (o * (length xs * B .stride)) ps)) (at xs i) (at ups o) s)
-    (slotOf (startingAt B b) (drop (i * B .stride) (drop (o * (length xs * B .stride)) ps)) (at xs i) (at ups o) s))
-    → Cells R (layerSlots (startingAt B a) ps xs ups) (layerSlots (startingAt B b) ps xs ups)
+    (slotOf (beginningAt B a) (drop (i * B .stride) (drop (o * (length xs * B .stride)) ps)) (at xs i) (at ups o) s)
+    (slotOf (beginningAt B b) (drop (i * B .stride) (drop (o * (length xs * B .stride)) ps)) (at xs i) (at ups o) s))
+    → Cells R (layerSlots (beginningAt B a) ps xs ups) (layerSlots (beginningAt B b) ps xs ups)
 unfolding layerSlots
 cells-layer R past B a b ps xs ups each =
     let per = B .stride in
     let row = length xs * per in
-    let S = startingAt B a in
-    let Z = startingAt B b in
+    let S = beginningAt B a in
+    let Z = beginningAt B b in
     cells-flat R past (nodeSlots S ps xs ups) (nodeSlots Z ps xs ups) (length ups)
     (λ o ol. node-length S ps xs ups o ∙ sym (node-length Z ps xs ups o)) (λ o ol.
     rw (flat-length (nodeSlots S ps xs ups) row (node-length S ps xs ups) o)

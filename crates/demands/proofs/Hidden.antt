@@ -1,67 +1,110 @@
 -- The start of `dot` is hidden from every call. Assumes nothing.
-use mathlib.Core.Path.{sym, ap, _∙_}
-use mathlib.Core.Bool.{not}
-use mathlib.Core.List.{List}
-use Prim.Native.Nat.{ℕ}
+use mathlib.Core.Path.{_≡_, sym, ap, _∙_}
+use mathlib.Core.Bool.{cond}
+use mathlib.Core.List.{List, []}
+use Prim.Native.Nat.{ℕ, _+_}
 use lib.ListN.{length}
 use lib.Ieee.{Float}
+use Rattle.refusals.specs.Refusals.{_then_, past, outcomeOf}
 use Rattle.spline.specs.declared.Grid.{Grid}
-use Rattle.layers.specs.Basis.{basisOf}
-use Rattle.config.specs.declared.Checked.{Checked}
-use Rattle.admission.specs.Admission.{equipped, furnished, answered, written}
-use Rattle.single.specs.Forward.{inFirst, forwardNumber, forwardOutputs, forwardSlice}
-use Rattle.single.specs.Forward.{forwardRefusal, forwardPart, forwardFirst, forwardSecond}
-use Rattle.loss.specs.Loss.{lossAnswer}
-use Rattle.training.specs.Train.{outcomeOf, trainingOf, trainingAnswer}
-use Rattle.demands.specs.Start.{StartHidden}
-use Rattle.demands.proofs.Start.{pass-start, pass-outputs-start, outcome-start, written-start, loss-start}
-use Rattle.demands.proofs.Start.{visit-outcome-start, visit-written-start}
-use Rattle.demands.proofs.Start.{train-fault-start, train-done-start, train-model-start}
+use Rattle.layers.specs.Net.{netOf}
+use Rattle.layers.specs.Widths.{parametersIn, widestIn}
+use Rattle.config.specs.Config.{carriedBy}
+use Rattle.touched_layer.specs.Touched.{blank}
+use Rattle.passes.specs.Pass.{rowsOf}
+use Rattle.admission.specs.Admission.{upTo9, upTo9InTraining}
+use Rattle.forward.specs.Forward.{inFirst, fronted, forwardRefusal, forwardPart, forwardFirst, forwardSecond}
+use Rattle.prediction.specs.Predict.{rowCarried, upTo11}
+use Rattle.loss.specs.Loss.{lossOf, upTo18}
+use Rattle.visit_map.specs.Visits.{visitRefusal, visitCarried, visitMarks}
+use Rattle.visit_map.specs.Visits as visits
+use Rattle.training.specs.Train.{trainingOf}
+use Rattle.demands.specs.Start.{fromMinusZero, StartHidden}
+use Rattle.demands.proofs.Start.{pass-start, outputs-start, rows-refusal-start, rows-done-start, outputs-over-start, marks-start}
+use Rattle.demands.proofs.Start.{rows-loss-start, mean-start, train-fault-start, train-done-start, train-model-start}
 
-pub start-hidden : (ws : List ℕ) (g : Grid) (ps xs : List Float) → StartHidden ws g ps xs
-unfolding forwardRefusal forwardPart forwardFirst forwardSecond
-start-hidden ws g ps xs =
-    let B = basisOf g in
-    let equipment : List Float → List Float → Checked = λ a b. equipped ws g (length ps) (length a) (length b) in
-    let supply : List Float → List Float → Checked = λ gs W. furnished ws g (length ps) (length gs) (length W) in
-    let outputs = pass-outputs-start B ps ws xs in
-    record {
-      forward = λ a b. (
-        ap (forwardNumber (equipment a b)) (pass-start B ps ws xs),
-        ap (forwardOutputs (equipment a b)) outputs,
-        ap (λ (os : List Float). forwardSlice (equipment a b) (inFirst ws) os a) outputs,
-        ap (λ (os : List Float). forwardSlice (equipment a b) (not (inFirst ws)) os b) outputs,
-      );
-      predict = λ a b ys r s a′ b′ ys′ a″ b″ ys″ p q. (
-        p .answer ∙ ap (answered (equipment a b)) (outcome-start B ps ws xs (length ys)) ∙ sym (q .answer),
-        p .outputs ∙ ap (written (equipment a b) ys) (written-start B ps ws xs ys) ∙ sym (q .outputs),
-        p .first ∙ sym (q .first),
-        p .second ∙ sym (q .second),
-      );
-      visit = λ a b ms r s a′ b′ ms′ a″ b″ ms″ p q. (
-        p .answer ∙ ap (answered (equipment a b)) (visit-outcome-start B ps ws xs (length ms)) ∙ sym (q .answer),
-        p .map ∙ ap (written (equipment a b) ms) (visit-written-start B ps ws xs ms) ∙ sym (q .map),
-        p .first ∙ sym (q .first),
-        p .second ∙ sym (q .second),
-      );
-      loss = λ ts a b r s a′ b′ a″ b″ p q. (
-        p .answer ∙ ap (lossAnswer (equipment a b)) (loss-start B ps ws xs ts) ∙ sym (q .answer),
-        p .first ∙ sym (q .first),
-        p .second ∙ sym (q .second),
-      );
-      step = λ ts rate gs W r s ps′ gs′ W′ ps″ gs″ W″ p q. (
-        p .answer ∙ ap (λ (n : ℕ). answered (supply gs W) (outcomeOf n)) (train-fault-start B ws ps xs ts rate 1) ∙ sym (q .answer),
-        p .model ∙ ap (written (supply gs W) ps) (train-model-start B ws ps xs ts rate 1) ∙ sym (q .model),
-        p .gradients ∙ sym (q .gradients),
-        p .work ∙ sym (q .work),
-      );
-      train = λ ts rate gs W steps r s ps′ gs′ W′ ps″ gs″ W″ p q. (
-        p .answer
-            ∙ (λ i. trainingAnswer (supply gs W)
-            (trainingOf (train-fault-start B ws ps xs ts rate steps i) (train-done-start B ws ps xs ts rate steps i)))
-            ∙ sym (q .answer),
-        p .model ∙ ap (written (supply gs W) ps) (train-model-start B ws ps xs ts rate steps) ∙ sym (q .model),
-        p .gradients ∙ sym (q .gradients),
-        p .work ∙ sym (q .work),
-      );
-    }
+module _ (ws : List ℕ) (g : Grid) (ps xs : List Float) where
+  abbrev P : ℕ
+  P = parametersIn (g .intervals + 5) ws
+
+  module _ (a b : List Float) where
+    abbrev to9 : ℕ
+    to9 = upTo9 ws g (length ps) (length a) (length b)
+
+    refusal : forwardRefusal (netOf g) ws g ps xs a b ≡ forwardRefusal (fromMinusZero g) ws g ps xs a b
+    unfolding forwardRefusal
+    refusal i = to9 then pass-start (netOf g) ps ws xs i
+
+    part : forwardPart (netOf g) ws g ps xs a b ≡ forwardPart (fromMinusZero g) ws g ps xs a b
+    unfolding forwardPart
+    part i = past (to9 then pass-start (netOf g) ps ws xs i) (outputs-start (netOf g) ps ws xs i) []
+
+    first : forwardFirst (netOf g) ws g ps xs a b ≡ forwardFirst (fromMinusZero g) ws g ps xs a b
+    unfolding forwardFirst
+    first i = past to9 (fronted (cond (inFirst ws) (part i) []) (widestIn ws) a) a
+
+    second : forwardSecond (netOf g) ws g ps xs a b ≡ forwardSecond (fromMinusZero g) ws g ps xs a b
+    unfolding forwardSecond
+    second i = past to9 (fronted (cond (inFirst ws) [] (part i)) (widestIn ws) b) b
+
+    module _ (ms : List ℕ) where
+      abbrev checks : ℕ
+      checks = visits.upTo11 ws g ps (length a) (length b) (length ms)
+
+      visit-refusal : visitRefusal (netOf g) ws g ps xs a b ms ≡ visitRefusal (fromMinusZero g) ws g ps xs a b ms
+      unfolding visitRefusal
+      visit-refusal i = checks then rows-refusal-start (netOf g) ps ws xs i
+
+      visit-carried : visitCarried (netOf g) ws g ps xs a b ms ≡ visitCarried (fromMinusZero g) ws g ps xs a b ms
+      unfolding visitCarried
+      visit-carried i = past checks (rows-done-start (netOf g) ps ws xs i) (carriedBy checks P)
+
+      visit-marks : visitMarks (netOf g) ws g ps xs a b ms ≡ visitMarks (fromMinusZero g) ws g ps xs a b ms
+      unfolding visitMarks
+      visit-marks i =
+          past checks (past (rows-refusal-start (netOf g) ps ws xs i) (marks-start (netOf g) ps ws xs (rowsOf ws xs) P i) (blank P)) ms
+
+  pub start-hidden : StartHidden ws g ps xs
+  start-hidden =
+      let N = netOf g in
+      record {
+        forward = λ a b. (refusal a b, part a b, first a b, second a b);
+        predict = λ a b ys r s a′ b′ ys′ a″ b″ ys″ p q. (
+          p .answer ∙ (λ i. outcomeOf (upTo11 N ws g ps xs a b ys then rows-refusal-start N ps ws xs i)
+              (rowCarried (upTo11 N ws g ps xs a b ys) P (rows-done-start N ps ws xs i)))
+              ∙ sym (q .answer),
+          p .outputs ∙ ap (λ (new : List Float). past (upTo11 N ws g ps xs a b ys) new ys) (outputs-over-start N ps ws xs ys) ∙ sym (q .outputs),
+          p .first ∙ sym (q .first),
+          p .second ∙ sym (q .second),
+        );
+        visit = λ a b ms r s a′ b′ ms′ a″ b″ ms″ p q. (
+          p .answer ∙ (λ i. outcomeOf (visit-refusal a b ms i) (visit-carried a b ms i)) ∙ sym (q .answer),
+          p .map ∙ visit-marks a b ms ∙ sym (q .map),
+          p .first ∙ sym (q .first),
+          p .second ∙ sym (q .second),
+        );
+        loss = λ ts a b r s a′ b′ a″ b″ p q. (
+          p .answer ∙ (λ i. lossOf (upTo18 N ws g ps xs ts a b then rows-loss-start N ps ws xs ts i)
+              (carriedBy (upTo9 ws g (length ps) (length a) (length b)) P) (mean-start N ps ws xs ts i))
+              ∙ sym (q .answer),
+          p .first ∙ sym (q .first),
+          p .second ∙ sym (q .second),
+        );
+        step = λ ts rate gs W r s ps′ gs′ W′ ps″ gs″ W″ p q. (
+          p .answer ∙ ap (λ (n : ℕ). outcomeOf n (carriedBy (upTo9InTraining ws g (length ps) (length gs) (length W)) P))
+              (train-fault-start N ws ps xs ts rate g gs W 1)
+              ∙ sym (q .answer),
+          p .leaves .model ∙ train-model-start N ws ps xs ts rate g gs W 1 ∙ sym (q .leaves .model),
+          p .leaves .gradients ∙ sym (q .leaves .gradients),
+          p .leaves .work ∙ sym (q .leaves .work),
+        );
+        train = λ ts rate gs W steps r s ps′ gs′ W′ ps″ gs″ W″ p q. (
+          p .answer ∙ (λ i. trainingOf (train-fault-start N ws ps xs ts rate g gs W steps i)
+              (carriedBy (upTo9InTraining ws g (length ps) (length gs) (length W)) P)
+              (train-done-start N ws ps xs ts rate g gs W steps i))
+              ∙ sym (q .answer),
+          p .leaves .model ∙ train-model-start N ws ps xs ts rate g gs W steps ∙ sym (q .leaves .model),
+          p .leaves .gradients ∙ sym (q .leaves .gradients),
+          p .leaves .work ∙ sym (q .leaves .work),
+        );
+      }

@@ -15,7 +15,7 @@ use Rattle.floats.specs.Binary32.{_⊖_, _⊗_, zero32}
 use Rattle.floats.specs.Sums.{at, allFinite, finiteAt}
 use Rattle.floats.proofs.Sums.{update-zero, update-nan}
 use Rattle.floats.proofs.Loops.{tab-length, all-each}
-use Rattle.descent.specs.Accumulate.{movedAt, movedFinite, movesFinite, movedOf}
+use Rattle.update.specs.Update.{movedAt, movedFinite, movesFinite, movedOf}
 use Rattle.demands.specs.Silent.{Places, Differ}
 use Rattle.demands.specs.Alike.{LeftAlike}
 use Rattle.demands.proofs.Tests.{all-same}

@@ -4,19 +4,22 @@ use native.Mathlib.Nat.{le-refl, eq-or-lt-of-le, le-of-suc-le-suc}
 use native.Mathlib.Omega.{arith}
 use mathlib.Core.Path.{_≡_, refl, sym, ap, _∙_, subst}
 use mathlib.Core.Logic.{inl, inr}
-use mathlib.Core.Bool.{Bool, true, false, _&&_, cond, true≢false}
+use mathlib.Core.Bool.{Bool, true, false, _&&_}
 use mathlib.Core.List.{List}
-use lib.Dec.{eqb}
 use lib.ListN.{length}
 use lib.Ieee.{Float}
 use Rattle.floats.specs.Sums.{allTo, allFinite}
-use Rattle.layers.specs.Basis.{Basis}
+use Rattle.layers.specs.Net.{Net, basisAt}
 use Rattle.layers.specs.Widths.{widthAt}
 use Rattle.layers.specs.Layer.{layerOf}
-use Rattle.rows.specs.Pass.{nodesOf, outputsOf, finiteAfter, nodesFinite, rowFault, rowRefusal}
-use Rattle.rows.proofs.Passes.{nodes-length, full}
+use Rattle.passes.specs.Pass.{nodesOf, outputsOf, finiteAfter, nodesFinite, rowRefusal}
+use Rattle.batches.specs.Batch.{rowFault}
+use Rattle.refusals.specs.Refusals.{_otherwise_, _then_}
+use Rattle.refusals.proofs.Firsts.{both-pass, test-passes}
+use Rattle.passes.proofs.Passes.{nodes-length}
+use Rattle.passes.proofs.Rows.{full}
 use Rattle.demands.specs.Silent.{Places, Reaches, RowSilent}
-use Rattle.demands.proofs.Tests.{past-test, all-same, zero-when}
+use Rattle.demands.proofs.Tests.{past-checks, all-same}
 use Rattle.demands.proofs.Layers.{LayerAlike, layer-same}
 use Rattle.demands.proofs.Places.{Siblings, partOf, layer-alike}
 
@@ -39,61 +42,51 @@ all-before p m (suc n) h e = elim (eq-or-lt-of-le h) [
   | inr l ↦ all-before p m n (le-of-suc-le-suc l) (all-less p n e)
 ]
 
--- a row with no refusal has no fault, and its nodes are finite
-passed : (n : ℕ) (b : Bool) → cond (eqb n 0) (cond b 0 20) n ≡ 0 → (n ≡ 0) × (b ≡ true)
-passed n b e = go (eqb n 0) refl b e
-  where
-    go : (z : Bool) → eqb n 0 ≡ z → (b : Bool) → cond z (cond b 0 20) n ≡ 0 → (n ≡ 0) × (b ≡ true)
-    go true p true e = (zero-when n p, refl)
-    go true p false e = absurd (omega arith)
-    go false p b e = absurd (true≢false (ap (λ (m : ℕ). eqb m 0) (sym e) ∙ p))
+module _ {N : Net} {ws : List ℕ} {D : Places} {ps qs : List Float} (two : Siblings N ws D ps qs) (xs : List Float) where
+  module _ (wide : length xs ≡ widthAt ws 0) (silent : RowSilent N ws D ps xs) where
+    pub alike-at : (l : ℕ) → suc l < length ws → Reaches N ps ws xs l
+        → LayerAlike (basisAt N l) (nodesOf N ps ws xs l) (widthAt ws (suc l)) (partOf N ws ps l) (partOf N ws qs l)
+    alike-at l inside reached = layer-alike two xs l silent inside reached (nodes-length N ps ws xs wide l)
 
-module _ {B : Basis} {ws : List ℕ} {D : Places} {ps qs : List Float} (two : Siblings B ws D ps qs) (xs : List Float) where
-  module _ (wide : length xs ≡ widthAt ws 0) (silent : RowSilent B ws D ps xs) where
-    pub alike-at : (l : ℕ) → suc l < length ws → Reaches B ps ws xs l
-        → LayerAlike B (nodesOf B ps ws xs l) (widthAt ws (suc l)) (partOf B ws ps l) (partOf B ws qs l)
-    alike-at l inside reached = layer-alike two xs l silent inside reached (nodes-length B ps ws xs wide l)
-
-    one-layer : (l : ℕ) → suc l < length ws → Reaches B ps ws xs l → nodesOf B ps ws xs l ≡ nodesOf B qs ws xs l
-        → nodesOf B ps ws xs (suc l) ≡ nodesOf B qs ws xs (suc l)
+    one-layer : (l : ℕ) → suc l < length ws → Reaches N ps ws xs l → nodesOf N ps ws xs l ≡ nodesOf N qs ws xs l
+        → nodesOf N ps ws xs (suc l) ≡ nodesOf N qs ws xs (suc l)
     unfolding nodesOf
     one-layer l inside reached same =
-        layer-same B (two .begins) _ _ (nodesOf B ps ws xs l) (widthAt ws (suc l)) (alike-at l inside reached)
-        ∙ ap (λ (ns : List Float). layerOf B (partOf B ws qs l) ns (widthAt ws (suc l))) same
+        layer-same (basisAt N l) (two .begins) _ _ (nodesOf N ps ws xs l) (widthAt ws (suc l)) (alike-at l inside reached)
+        ∙ ap (λ (ns : List Float). layerOf (basisAt N l) (partOf N ws qs l) ns (widthAt ws (suc l))) same
 
     -- the values that layer l reads
-    pub nodes-same : (l : ℕ) → l ≤ length ws - 1 → Reaches B ps ws xs l → nodesOf B ps ws xs l ≡ nodesOf B qs ws xs l
+    pub nodes-same : (l : ℕ) → l ≤ length ws - 1 → Reaches N ps ws xs l → nodesOf N ps ws xs l ≡ nodesOf N qs ws xs l
     unfolding nodesOf
     nodes-same zero inside reached = refl
     nodes-same (suc l) inside reached =
-        let before = all-less (finiteAfter B ps ws xs) l reached in
+        let before = all-less (finiteAfter N ps ws xs) l reached in
         one-layer l (omega arith) before (nodes-same l (omega arith) before)
 
     -- and it reads them in both or in none
-    pub reached-same : (l : ℕ) → l ≤ length ws - 1 → allTo (finiteAfter B ps ws xs) l ≡ allTo (finiteAfter B qs ws xs) l
+    pub reached-same : (l : ℕ) → l ≤ length ws - 1 → allTo (finiteAfter N ps ws xs) l ≡ allTo (finiteAfter N qs ws xs) l
     reached-same l h =
-        all-same (finiteAfter B ps ws xs) (finiteAfter B qs ws xs) l (λ j k reached.
+        all-same (finiteAfter N ps ws xs) (finiteAfter N qs ws xs) l (λ j k reached.
         ap allFinite (one-layer j (omega arith) reached (nodes-same j (omega arith) reached)))
 
-    pub finite-same : nodesFinite B ps ws xs ≡ nodesFinite B qs ws xs
+    pub finite-same : nodesFinite N ps ws xs ≡ nodesFinite N qs ws xs
     unfolding nodesFinite
     finite-same = reached-same (length ws - 1) (le-refl (length ws - 1))
 
-    pub outputs-same : nodesFinite B ps ws xs ≡ true → outputsOf B ps ws xs ≡ outputsOf B qs ws xs
+    pub outputs-same : nodesFinite N ps ws xs ≡ true → outputsOf N ps ws xs ≡ outputsOf N qs ws xs
     unfolding nodesFinite
     outputs-same passed = nodes-same (length ws - 1) (le-refl (length ws - 1)) passed
 
   -- ---- the row's refusal, and its outputs where there is none
-  module _ (silent : rowFault (widthAt ws 0) 14 15 xs ≡ 0 → RowSilent B ws D ps xs) where
-    pub refusal-same : rowRefusal B ps ws xs ≡ rowRefusal B qs ws xs
+  module _ (silent : rowFault (widthAt ws 0) 14 15 xs ≡ 0 → RowSilent N ws D ps xs) where
+    pub refusal-same : rowRefusal N ps ws xs ≡ rowRefusal N qs ws xs
     unfolding rowRefusal
     refusal-same =
-        let fault = rowFault (widthAt ws 0) 14 15 xs in
-        past-test (eqb fault 0) (λ b finite. cond b (cond finite 0 20) fault) refl (λ e.
-        let sound = zero-when fault e in finite-same (full (widthAt ws 0) xs sound) (silent sound))
+        past-checks (rowFault (widthAt ws 0) 14 15 xs) (λ n finite. n then finite otherwise 20) (λ m. refl) (λ sound.
+        finite-same (full (widthAt ws 0) xs sound) (silent sound))
 
-    pub taken-outputs-same : rowRefusal B ps ws xs ≡ 0 → outputsOf B ps ws xs ≡ outputsOf B qs ws xs
+    pub taken-outputs-same : rowRefusal N ps ws xs ≡ 0 → outputsOf N ps ws xs ≡ outputsOf N qs ws xs
     unfolding rowRefusal
     taken-outputs-same e =
-        let (sound, finite) = passed (rowFault (widthAt ws 0) 14 15 xs) (nodesFinite B ps ws xs) e in
-        outputs-same (full (widthAt ws 0) xs sound) (silent sound) finite
+        let both = both-pass (rowFault (widthAt ws 0) 14 15 xs) _ e in
+        outputs-same (full (widthAt ws 0) xs (both .0)) (silent (both .0)) (test-passes (nodesFinite N ps ws xs) 19 (both .1))

@@ -16,9 +16,9 @@ use Rattle.floats.specs.Sums.{at, allFinite, finiteAt}
 use Rattle.floats.specs.Zeros.{isZero}
 use Rattle.floats.proofs.Loops.{all-each}
 use Rattle.floats.proofs.Sums.{Plain, Swap}
-use Rattle.layers.specs.Basis.{Basis}
+use Rattle.layers.specs.Net.{Net, basisAt}
 use Rattle.layers.specs.Widths.{widthAt, layerSize, paramsTo}
-use Rattle.rows.specs.Pass.{nodesOf}
+use Rattle.passes.specs.Pass.{nodesOf}
 use Rattle.demands.specs.Silent.{Places, placeOf, Differ, Reaches, RowSilent}
 use Rattle.demands.proofs.Layers.{LayerAlike}
 
@@ -51,8 +51,8 @@ slot-of per ws l o i s h =
         ∙ sym (add-assoc (e * per) (o * (widthAt ws l * per) + i * per) s))
 
 -- ---- the part of the model that begins at layer l's first edge
-abbrev pub partOf : Basis → List ℕ → List Float → ℕ → List Float
-partOf B ws ps l = drop (paramsTo (B .stride) ws l) ps
+abbrev pub partOf : Net → List ℕ → List Float → ℕ → List Float
+partOf N ws ps l = drop (paramsTo (N .stride) ws l) ps
 
 -- an edge's parameter s, as the layer has it, is the model's at its place
 pub at-place : (per : ℕ) (ws : List ℕ) (l o i s w : ℕ) (ps : List Float) → w ≡ widthAt ws l
@@ -89,48 +89,48 @@ module _ {per : ℕ} {D : Places} {ps qs : List Float} (differ : Differ per D ps
       go false d = inl (differ .others p d)
       go true d = inr (h d, finite-both p d .0, finite-both p d .1)
 
--- over a basis whose `dot` does not start at -0.0 and whose edges are two weights and the coefficients
-pub record Siblings (B : Basis) (ws : List ℕ) (D : Places) (ps qs : List Float) : Type 0 where
-  pub begins : Plain (B .start)
-  pub edge : B .stride ≡ 2 + B .coefficients
-  pub differ : Differ (B .stride) D ps qs
+-- over a network whose `dot` does not start at -0.0 and whose edges are two weights and the coefficients
+pub record Siblings (N : Net) (ws : List ℕ) (D : Places) (ps qs : List Float) : Type 0 where
+  pub begins : Plain (N .start)
+  pub edge : N .stride ≡ 2 + N .coefficients
+  pub differ : Differ (N .stride) D ps qs
 
-module _ {B : Basis} {ws : List ℕ} {D : Places} {ps qs : List Float} (two : Siblings B ws D ps qs) where
+module _ {N : Net} {ws : List ℕ} {D : Places} {ps qs : List Float} (two : Siblings N ws D ps qs) where
   -- the weights are no coefficients
-  pub no-weight : (l o i s : ℕ) → s < 2 → D (placeOf (B .stride) ws l o i s) ≡ true → ⊥
+  pub no-weight : (l o i s : ℕ) → s < 2 → D (placeOf (N .stride) ws l o i s) ≡ true → ⊥
   no-weight l o i s h d =
-      clash (slot-of (B .stride) ws l o i s (small (two .edge))) (two .differ .coefficient (placeOf (B .stride) ws l o i s) d)
+      clash (slot-of (N .stride) ws l o i s (small (two .edge))) (two .differ .coefficient (placeOf (N .stride) ws l o i s) d)
     where
-      small : {n : ℕ} → n ≡ 2 + B .coefficients → s < n
+      small : {n : ℕ} → n ≡ 2 + N .coefficients → s < n
       small e = omega arith
 
       clash : {n : ℕ} → n ≡ s → 2 ≤ n → ⊥
       clash e k = omega arith
 
-  weight-same : (l o i s : ℕ) → s < 2 → at ps (placeOf (B .stride) ws l o i s) ≡ at qs (placeOf (B .stride) ws l o i s)
-  weight-same l o i s h = go (D (placeOf (B .stride) ws l o i s)) refl
+  weight-same : (l o i s : ℕ) → s < 2 → at ps (placeOf (N .stride) ws l o i s) ≡ at qs (placeOf (N .stride) ws l o i s)
+  weight-same l o i s h = go (D (placeOf (N .stride) ws l o i s)) refl
     where
-      go : (b : Bool) → D (placeOf (B .stride) ws l o i s) ≡ b
-          → at ps (placeOf (B .stride) ws l o i s) ≡ at qs (placeOf (B .stride) ws l o i s)
-      go false d = two .differ .others (placeOf (B .stride) ws l o i s) d
+      go : (b : Bool) → D (placeOf (N .stride) ws l o i s) ≡ b
+          → at ps (placeOf (N .stride) ws l o i s) ≡ at qs (placeOf (N .stride) ws l o i s)
+      go false d = two .differ .others (placeOf (N .stride) ws l o i s) d
       go true d = absurd (no-weight l o i s h d)
 
   -- layer l, at the row's numbers there
-  pub layer-alike : (xs : List Float) (l : ℕ) → RowSilent B ws D ps xs → suc l < length ws → Reaches B ps ws xs l
-      → length (nodesOf B ps ws xs l) ≡ widthAt ws l
-      → LayerAlike B (nodesOf B ps ws xs l) (widthAt ws (suc l)) (partOf B ws ps l) (partOf B ws qs l)
+  pub layer-alike : (xs : List Float) (l : ℕ) → RowSilent N ws D ps xs → suc l < length ws → Reaches N ps ws xs l
+      → length (nodesOf N ps ws xs l) ≡ widthAt ws l
+      → LayerAlike (basisAt N l) (nodesOf N ps ws xs l) (widthAt ws (suc l)) (partOf N ws ps l) (partOf N ws qs l)
   layer-alike xs l silent inside reached wide o i ol il =
-      let read = nodesOf B ps ws xs l in
+      let read = nodesOf N ps ws xs l in
       let narrow : i < widthAt ws l = subst (λ (n : ℕ). i < n) wide il in
-      let place = placeOf (B .stride) ws l o i in
-      let weight : (s : ℕ) (ms : List Float) → _ = λ s ms. at-place (B .stride) ws l o i s (length read) ms wide in
-      let coefficient : (k : ℕ) (ms : List Float) → _ = λ k ms. at-coefficient (B .stride) ws l o i k (length read) ms wide in
-      let zeros : (k : ℕ) → k < B .coefficients → D (place (2 + k)) ≡ true → _ = λ k kl d. silent l o i k inside ol narrow kl d reached in
+      let place = placeOf (N .stride) ws l o i in
+      let weight : (s : ℕ) (ms : List Float) → _ = λ s ms. at-place (N .stride) ws l o i s (length read) ms wide in
+      let coefficient : (k : ℕ) (ms : List Float) → _ = λ k ms. at-coefficient (N .stride) ws l o i k (length read) ms wide in
+      let zeros : (k : ℕ) → k < N .coefficients → D (place (2 + k)) ≡ true → _ = λ k kl d. silent l o i k inside ol narrow kl d reached in
       record {
         base = weight 0 ps ∙ weight-same l o i 0 (omega arith) ∙ sym (weight 0 qs);
         weight = weight 1 ps ∙ weight-same l o i 1 (omega arith) ∙ sym (weight 1 qs);
         values = λ k kl.
-            rw (coefficient k ps, coefficient k qs) (swap-at (two .differ) (place (2 + k)) (B .value k (at read i)) (λ d. zeros k kl d .0));
+            rw (coefficient k ps, coefficient k qs) (swap-at (two .differ) (place (2 + k)) (N .curve l .value k (at read i)) (λ d. zeros k kl d .0));
         slopes = λ k kl.
-            rw (coefficient k ps, coefficient k qs) (swap-at (two .differ) (place (2 + k)) (B .slope k (at read i)) (λ d. zeros k kl d .1));
+            rw (coefficient k ps, coefficient k qs) (swap-at (two .differ) (place (2 + k)) (N .curve l .slope k (at read i)) (λ d. zeros k kl d .1));
       }

@@ -6,49 +6,40 @@ use mathlib.Core.Bool.{true}
 use mathlib.Core.List.{List}
 use lib.Ieee.{Float}
 use Rattle.floats.specs.Sums.{allTo}
-use Rattle.layers.specs.Basis.{Basis}
+use Rattle.refusals.specs.Refusals.{firstTo}
+use Rattle.layers.specs.Net.{Net}
 use Rattle.layers.specs.Widths.{inputWidth}
-use Rattle.rows.specs.Pass.{rowFault}
-use Rattle.descent.specs.Calls.{rowsOf}
-use Rattle.rows.specs.Batch.{rowAt, firstFault}
-use Rattle.config.specs.declared.Sizes.{Sizes}
-use Rattle.config.specs.declared.Checked.{Checked}
-use Rattle.config.specs.declared.Checked.the-variants.{Sound}
-use Rattle.loss.specs.declared.Sum.the-variants.{Of}
-use Rattle.admission.specs.Rows.{refusalAt}
-use Rattle.loss.specs.Loss.{lossTo}
-use Rattle.descent.specs.Accumulate.{passes}
+use Rattle.batches.specs.Batch.{rowAt, rowFault}
+use Rattle.passes.specs.Pass.{rowsOf, refusalAt}
+use Rattle.loss.specs.Loss.{lossRowFault}
+use Rattle.batch_gradients.specs.Accumulate.{passes}
 use Rattle.training.specs.Train.{modelAfter, faultAt}
 use Rattle.demands.specs.Silent.{Places, RowSilent}
 
--- the checks up to 9 are passed
-abbrev pub Admitted : Checked → Type 0
-Admitted c = (s : Sizes) × (c ≡ Sound s)
-
 -- the coefficients of the set are silent at all that a row reads, if it is read
-module _ (B : Basis) (ws : List ℕ) (D : Places) (ps : List Float) where
+module _ (N : Net) (ws : List ℕ) (D : Places) (ps : List Float) where
   -- one row, unless 14 or 15 refuse it
   abbrev pub RowReads : List Float → Type 0
-  RowReads xs = rowFault (inputWidth ws) 14 15 xs ≡ 0 → RowSilent B ws D ps xs
+  RowReads xs = rowFault (inputWidth ws) 14 15 xs ≡ 0 → RowSilent N ws D ps xs
 
   -- row r of a prediction, unless a row before it is refused
   abbrev pub PredictReads : List Float → Type 0
   PredictReads xs =
-      (r : ℕ) → r < rowsOf ws xs → firstFault (refusalAt B ps ws xs) r ≡ 0 → RowReads (rowAt xs (inputWidth ws) r)
+      (r : ℕ) → r < rowsOf ws xs → firstTo (refusalAt N ps ws xs) r ≡ 0 → RowReads (rowAt xs (inputWidth ws) r)
 
   -- row r of a loss, unless 20, 21 or 22 stops a row before it
   abbrev pub LossReads : List Float → List Float → Type 0
   LossReads xs ts =
-      (r : ℕ) → r < rowsOf ws xs → (s : Float) → lossTo B ps ws xs ts r ≡ Of s
-      → RowSilent B ws D ps (rowAt xs (inputWidth ws) r)
+      (r : ℕ) → r < rowsOf ws xs → firstTo (lossRowFault N ps ws xs ts) r ≡ 0
+      → RowSilent N ws D ps (rowAt xs (inputWidth ws) r)
 
   -- row r of a training step, unless 20 stops a row before it
   abbrev pub StepReads : List Float → Type 0
   StepReads xs =
-      (r : ℕ) → r < rowsOf ws xs → allTo (passes B ps ws xs) r ≡ true
-      → RowSilent B ws D ps (rowAt xs (inputWidth ws) r)
+      (r : ℕ) → r < rowsOf ws xs → allTo (passes N ps ws xs) r ≡ true
+      → RowSilent N ws D ps (rowAt xs (inputWidth ws) r)
 
 -- every step, on the model before it, unless 20 or 23 refuses a step before it
-abbrev pub TrainReads : Basis → List ℕ → Places → List Float → List Float → List Float → Float → ℕ → Type 0
-TrainReads B ws D ps xs ts rate steps =
-    (s : ℕ) → s < steps → firstFault (faultAt B ps ws xs ts rate) s ≡ 0 → StepReads B ws D (modelAfter B ps ws xs ts rate s) xs
+abbrev pub TrainReads : Net → List ℕ → Places → List Float → List Float → List Float → Float → ℕ → Type 0
+TrainReads N ws D ps xs ts rate steps =
+    (s : ℕ) → s < steps → firstTo (faultAt N ps ws xs ts rate) s ≡ 0 → StepReads N ws D (modelAfter N ps ws xs ts rate s) xs

@@ -10,8 +10,9 @@ use lib.Ieee.{Float, binary32, fits}
 use Rattle.floats.specs.Sums.{at, allTo, allFinite}
 use Rattle.floats.specs.Zeros.{isZero}
 use Rattle.layers.specs.Basis.{Basis}
+use Rattle.layers.specs.Net.{Net, basisAt}
 use Rattle.layers.specs.Widths.{widthAt, paramsTo}
-use Rattle.rows.specs.Pass.{nodesOf, finiteAfter}
+use Rattle.passes.specs.Pass.{nodesOf, finiteAfter}
 
 -- a set of places of the flat model
 abbrev pub Places : Type 0
@@ -37,11 +38,12 @@ abbrev pub Silent : Basis → ℕ → Float → Type 0
 Silent B k x = T (isZero (B .value k x)) × T (isZero (B .slope k x))
 
 -- layer l reads the row xs: no layer before it was refused
-abbrev pub Reaches : Basis → List Float → List ℕ → List Float → ℕ → Type 0
-Reaches B ps ws xs l = allTo (finiteAfter B ps ws xs) l ≡ true
+abbrev pub Reaches : Net → List Float → List ℕ → List Float → ℕ → Type 0
+Reaches N ps ws xs l = allTo (finiteAfter N ps ws xs) l ≡ true
 
 -- "at every number their edges read" of the row xs on the model ps
-abbrev pub RowSilent : Basis → List ℕ → Places → List Float → List Float → Type 0
-RowSilent B ws D ps xs =
-    (l o i k : ℕ) → suc l < length ws → o < widthAt ws (suc l) → i < widthAt ws l → k < B .coefficients
-    → D (placeOf (B .stride) ws l o i (2 + k)) ≡ true → Reaches B ps ws xs l → Silent B k (at (nodesOf B ps ws xs l) i)
+abbrev pub RowSilent : Net → List ℕ → Places → List Float → List Float → Type 0
+RowSilent N ws D ps xs =
+    (l o i k : ℕ) → suc l < length ws → o < widthAt ws (suc l) → i < widthAt ws l → k < N .coefficients
+    → D (placeOf (N .stride) ws l o i (2 + k)) ≡ true → Reaches N ps ws xs l
+    → Silent (basisAt N l) k (at (nodesOf N ps ws xs l) i)

@@ -1,8 +1,9 @@
--- "Each public call's statement determines its answer and the final contents of all memory lent to it .. that any two outcomes
--- allowed by it coincide is itself shown" (document 01): the number
--- and every lent cell, in the order of the parameters.
-use mathlib.Core.Path.{_≡_, sym, _∙_}
+-- "Each public call's statement determines its answer and the final contents of all memory lent to it .. that any two
+-- outcomes allowed by it coincide is itself shown" (document 01): the number, and each parameter in order. Where nothing
+-- is lent to be written, `refl`; else both outcomes have equations with the same right side, which `cc` joins.
+use mathlib.Core.Path.{_≡_, refl, sym, ap, _∙_}
 use Rattle.floats.proofs.Determined.{Determined}
+use Rattle.estimator.specs.Linkage.{descriptionOr}
 use Rattle.estimator.proofs.kan_check as check
 use Rattle.estimator.proofs.kan_check.Reads as check-reads
 use Rattle.estimator.proofs.kan_initialise as initialise
@@ -24,80 +25,52 @@ use Rattle.estimator.proofs.kan_image_read.Reads as read-reads
 use Rattle.estimator.proofs.kan_image_unpack as unpack
 use Rattle.estimator.proofs.kan_image_unpack.Reads as unpack-reads
 
+-- the last contents of all parameters are one tuple: alike in the first, and alike in the rest
+infixr 30 _&_
+_&_ : {A B : Type 0} {x y : A × B} → x .0 ≡ y .0 → x .1 ≡ y .1 → x ≡ y
+_&_ first rest i = (first i, rest i)
+
 pub check-determined : Determined check.ended check-reads.Post
 check-determined κs a r r′ w w′ p q =
-    let parameters = p .parameters ∙ sym (q .parameters) in
-    let carried = p .carried ∙ sym (q .carried) in
-    (p .number ∙ sym (q .number), (λ i. (tt, (tt, (tt, (tt, (parameters i, (carried i, tt))))))))
+    (cc, refl & refl & refl & refl & (cc) & (cc) & refl)
 
 pub initialise-determined : Determined initialise.ended initialise-reads.Post
 initialise-determined κs a r r′ w w′ p q =
-    let model = p .model ∙ sym (q .model) in
-    let carried = p .carried ∙ sym (q .carried) in
-    (p .number ∙ sym (q .number), (λ i. (tt, (tt, (tt, (tt, (tt, (model i, (carried i, tt)))))))))
+    (cc, refl & refl & refl & refl & refl & (cc) & (cc) & refl)
 
 pub predict-determined : Determined predict.ended predict-reads.Post
 predict-determined κs a r r′ w w′ p q =
-    let first = p .first ∙ sym (q .first) in
-    let second = p .second ∙ sym (q .second) in
-    let outputs = p .outputs ∙ sym (q .outputs) in
-    let carried = p .carried ∙ sym (q .carried) in
-    (p .number ∙ sym (q .number), (λ i. (tt, (tt, (tt, (tt, (tt, (tt, (first i, (second i, (outputs i, (carried i, tt))))))))))))
+    (cc, refl & refl & refl & refl & refl & refl & (cc) & (cc) & (cc) & (cc) & refl)
 
 pub loss-determined : Determined loss.ended loss-reads.Post
 loss-determined κs a r r′ w w′ p q =
-    let first = p .first ∙ sym (q .first) in
-    let second = p .second ∙ sym (q .second) in
-    let loss = p .loss ∙ sym (q .loss) in
-    let carried = p .carried ∙ sym (q .carried) in
-    (p .number ∙ sym (q .number), (λ i. (tt, (tt, (tt, (tt, (tt, (tt, (tt, (first i, (second i, (loss i, (carried i, tt)))))))))))))
+    (cc, refl & refl & refl & refl & refl & refl & refl & (cc) & (cc) & (cc) & (cc) & refl)
 
 pub step-determined : Determined step.ended step-reads.Post
 step-determined κs a r r′ w w′ p q =
-    let model = p .model ∙ sym (q .model) in
-    let gradients = p .gradients ∙ sym (q .gradients) in
-    let work = p .work ∙ sym (q .work) in
-    let carried = p .carried ∙ sym (q .carried) in
-    (p .number ∙ sym (q .number), (λ i. (tt, (tt, (tt, (tt, (model i, (tt, (tt, (tt, (gradients i, (work i, (carried i, tt)))))))))))))
+    (cc, refl & refl & refl & refl & (cc) & refl & refl & refl & (cc) & (cc) & (cc) & refl)
 
 pub train-determined : Determined train.ended train-reads.Post
 train-determined κs a r r′ w w′ p q =
-    let model = p .model ∙ sym (q .model) in
-    let gradients = p .gradients ∙ sym (q .gradients) in
-    let work = p .work ∙ sym (q .work) in
-    let done = p .done ∙ sym (q .done) in
-    let carried = p .carried ∙ sym (q .carried) in (
-      p .number ∙ sym (q .number),
-      (λ i. (tt, (tt, (tt, (tt, (model i, (tt, (tt, (tt, (tt, (gradients i, (work i, (done i, (carried i, tt)))))))))))))),
-    )
+    (cc, refl & refl & refl & refl & (cc) & refl & refl & refl & refl & (cc) & (cc) & (cc) & (cc) & refl)
 
 pub visits-determined : Determined visits.ended visits-reads.Post
 visits-determined κs a r r′ w w′ p q =
-    let first = p .first ∙ sym (q .first) in
-    let second = p .second ∙ sym (q .second) in
-    let map = p .map ∙ sym (q .map) in
-    let carried = p .carried ∙ sym (q .carried) in
-    (p .number ∙ sym (q .number), (λ i. (tt, (tt, (tt, (tt, (tt, (tt, (first i, (second i, (map i, (carried i, tt))))))))))))
+    (cc, refl & refl & refl & refl & refl & refl & (cc) & (cc) & (cc) & (cc) & refl)
 
 pub write-determined : Determined write.ended write-reads.Post
 write-determined κs a r r′ w w′ p q =
-    let image = p .image ∙ sym (q .image) in
-    let carried = p .carried ∙ sym (q .carried) in
-    (p .number ∙ sym (q .number), (λ i. (tt, (tt, (tt, (tt, (tt, (image i, (carried i, tt)))))))))
+    (cc, refl & refl & refl & refl & refl & (cc) & (cc) & refl)
 
 pub read-determined : Determined read.ended read-reads.Post
 read-determined κs a r r′ w w′ p q =
-    let intervals = p .intervals ∙ sym (q .intervals) in
-    let lower = p .lower ∙ sym (q .lower) in
-    let upper = p .upper ∙ sym (q .upper) in
-    let widths = p .widths ∙ sym (q .widths) in
-    let parameters = p .parameters ∙ sym (q .parameters) in
-    let carried = p .carried ∙ sym (q .carried) in
-    (p .number ∙ sym (q .number), (λ i. (tt, (intervals i, (lower i, (upper i, (widths i, (parameters i, (carried i, tt)))))))))
+    let answers = p .call .0 ∙ sym (q .call .0) in
+    let lent = p .call .1 ∙ ap (λ o. descriptionOr o _) answers ∙ sym (q .call .1) in (
+      cc,
+      refl & (λ i. lent i .grid .intervals) & (λ i. lent i .grid .lo) & (λ i. lent i .grid .hi) & (λ i. lent i .widths)
+          & (λ i. lent i .parameters) & (cc) & refl,
+    )
 
 pub unpack-determined : Determined unpack.ended unpack-reads.Post
 unpack-determined κs a r r′ w w′ p q =
-    let widths = p .widths ∙ sym (q .widths) in
-    let model = p .model ∙ sym (q .model) in
-    let carried = p .carried ∙ sym (q .carried) in
-    (p .number ∙ sym (q .number), (λ i. (tt, (widths i, (model i, (carried i, tt))))))
+    (cc, refl & (cc) & (cc) & (cc) & refl)

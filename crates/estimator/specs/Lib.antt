@@ -1,4 +1,1 @@
 pub mod Linkage
-pub mod Trained
-pub mod Visited
-pub mod Images

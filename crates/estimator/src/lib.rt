@@ -1,15 +1,27 @@
 // Public crate: the C linkage, and nothing else. A slice is a pointer and a length in elements; an answer goes out as
 // document 01's number, and what it carries in a lent number.
-ghost use Rattle.estimator.specs.Linkage.{gridOf, CheckLinked, InitialiseLinked, PredictLinked, LossLinked};
-ghost use Rattle.estimator.specs.Trained.{StepLinked, TrainLinked};
-ghost use Rattle.estimator.specs.Visited.{VisitsLinked};
-ghost use Rattle.estimator.specs.Images.{WriteLinked, ReadLinked, UnpackLinked};
-use config::Checked;
-use config::Outcome;
-use image::Described;
-use loss::Loss;
+ghost use mathlib.Core.Path.{_≡_};
+ghost use Rattle.layers.specs.Net.{netOf};
+ghost use Rattle.config.specs.Config.{checkOf, checkedRefusal};
+ghost use Rattle.refusals.specs.Refusals.{outcomeRefusal};
+ghost use Rattle.initialisation.specs.Initialise.{Initialised};
+ghost use Rattle.prediction.specs.Predict.{Predicted};
+ghost use Rattle.loss.specs.Loss.{Lost, lossRefusal};
+ghost use Rattle.training.specs.Train.{Stepped, Trained, trainingRefusal, stepsDone};
+ghost use Rattle.visit_map.specs.Visits.{Visited};
+ghost use Rattle.image_reading.specs.Image.{describeOf, describedRefusal};
+ghost use Rattle.image_writing.specs.Writing.{ImageWritten};
+ghost use Rattle.image_unpacking.specs.Unpacking.{Unpacked};
+ghost use Rattle.estimator.specs.Linkage.{Linked, gridOf, descriptionOf};
+ghost use Rattle.estimator.specs.Linkage.{parametersOr, meanOr, descriptionOr};
 use spline::Grid;
-use training::Training;
+use telling::tell;
+use telling::tell_checked;
+use telling::tell_description;
+use telling::tell_loss;
+use telling::tell_training;
+
+mod telling;
 
 #[no_mangle]
 pub extern "C" fn kan_check(
@@ -20,21 +32,12 @@ pub extern "C" fn kan_check(
     parameters: &mut usize,
     carried: &mut usize,
 ) -> u32
-    ensures { λ r. ⌜ CheckLinked (now (widths .entry)) (gridOf intervals lo hi) (now (parameters .entry)) r
-        (now (parameters .exit)) (now (carried .exit)) ⌝ }
+    ensures { λ r. ⌜ Linked checkedRefusal r (now (carried .exit)) (λ o.
+        (o ≡ checkOf (now (widths .entry)) (gridOf intervals lo hi))
+        × (now (parameters .exit) ≡ parametersOr o (now (parameters .entry)))) ⌝ }
 {
     let checked = config::check(widths, Grid { intervals, lo, hi });
-    match checked {
-        Checked::Sound(sizes) => {
-            *parameters = sizes.parameters;
-            *carried = 0;
-            0
-        }
-        Checked::Refused(refusal) => {
-            *carried = refusal.carried;
-            refusal.number
-        }
-    }
+    tell_checked(checked, parameters, carried)
 }
 
 #[no_mangle]
@@ -47,20 +50,11 @@ pub extern "C" fn kan_initialise(
     model: &mut [f32],
     carried: &mut usize,
 ) -> u32
-    ensures { λ r. ⌜ InitialiseLinked (now (widths .entry)) (gridOf intervals lo hi) seed (now (model .entry)) r
-        (now (model .exit)) (now (carried .exit)) ⌝ }
+    ensures { λ r. ⌜ Linked outcomeRefusal r (now (carried .exit)) (λ o.
+        Initialised (now (widths .entry)) (gridOf intervals lo hi) seed (now (model .entry)) o (now (model .exit))) ⌝ }
 {
-    let outcome = start::initialise(widths, Grid { intervals, lo, hi }, seed, model);
-    match outcome {
-        Outcome::Done => {
-            *carried = 0;
-            0
-        }
-        Outcome::Refused(refusal) => {
-            *carried = refusal.carried;
-            refusal.number
-        }
-    }
+    let outcome = initialisation::initialise(widths, Grid { intervals, lo, hi }, seed, model);
+    tell(outcome, carried)
 }
 
 #[no_mangle]
@@ -76,9 +70,10 @@ pub extern "C" fn kan_predict(
     outputs: &mut [f32],
     carried: &mut usize,
 ) -> u32
-    ensures { λ r. ⌜ PredictLinked (now (widths .entry)) (gridOf intervals lo hi) (now (model .entry)) (now (inputs .entry))
-        (now (first .entry)) (now (second .entry)) (now (outputs .entry)) r
-        (now (first .exit)) (now (second .exit)) (now (outputs .exit)) (now (carried .exit)) ⌝ }
+    ensures { λ r. ⌜ Linked outcomeRefusal r (now (carried .exit)) (λ o.
+        Predicted (netOf (gridOf intervals lo hi)) (now (widths .entry)) (gridOf intervals lo hi) (now (model .entry))
+        (now (inputs .entry)) (now (first .entry)) (now (second .entry)) (now (outputs .entry)) o
+        (now (first .exit)) (now (second .exit)) (now (outputs .exit))) ⌝ }
 {
     let outcome = prediction::predict_batch(
         widths,
@@ -89,16 +84,7 @@ pub extern "C" fn kan_predict(
         second,
         outputs,
     );
-    match outcome {
-        Outcome::Done => {
-            *carried = 0;
-            0
-        }
-        Outcome::Refused(refusal) => {
-            *carried = refusal.carried;
-            refusal.number
-        }
-    }
+    tell(outcome, carried)
 }
 
 #[no_mangle]
@@ -115,10 +101,11 @@ pub extern "C" fn kan_loss(
     loss: &mut f32,
     carried: &mut usize,
 ) -> u32
-    ensures { λ r. ⌜ LossLinked (now (widths .entry)) (gridOf intervals lo hi) (now (model .entry)) (now (inputs .entry))
-        (now (targets .entry))
-        (now (first .entry)) (now (second .entry)) (now (loss .entry)) r
-        (now (first .exit)) (now (second .exit)) (now (loss .exit)) (now (carried .exit)) ⌝ }
+    ensures { λ r. ⌜ Linked lossRefusal r (now (carried .exit)) (λ o.
+        Lost (netOf (gridOf intervals lo hi)) (now (widths .entry)) (gridOf intervals lo hi) (now (model .entry))
+        (now (inputs .entry)) (now (targets .entry)) (now (first .entry)) (now (second .entry)) o
+        (now (first .exit)) (now (second .exit))
+        × (now (loss .exit) ≡ meanOr o (now (loss .entry)))) ⌝ }
 {
     let answer = loss::mse_loss(
         widths,
@@ -129,17 +116,7 @@ pub extern "C" fn kan_loss(
         first,
         second,
     );
-    match answer {
-        Loss::Mean(mean) => {
-            *loss = mean;
-            *carried = 0;
-            0
-        }
-        Loss::Refused(refusal) => {
-            *carried = refusal.carried;
-            refusal.number
-        }
-    }
+    tell_loss(answer, loss, carried)
 }
 
 #[no_mangle]
@@ -156,9 +133,10 @@ pub extern "C" fn kan_train_step(
     work: &mut [f32],
     carried: &mut usize,
 ) -> u32
-    ensures { λ r. ⌜ StepLinked (now (widths .entry)) (gridOf intervals lo hi) (now (model .entry)) (now (inputs .entry))
-        (now (targets .entry)) rate (now (gradients .entry)) (now (work .entry)) r
-        (now (model .exit)) (now (gradients .exit)) (now (work .exit)) (now (carried .exit)) ⌝ }
+    ensures { λ r. ⌜ Linked outcomeRefusal r (now (carried .exit)) (λ o.
+        Stepped (netOf (gridOf intervals lo hi)) (now (widths .entry)) (gridOf intervals lo hi) (now (model .entry))
+        (now (inputs .entry)) (now (targets .entry)) rate (now (gradients .entry)) (now (work .entry)) o
+        (now (model .exit)) (now (gradients .exit)) (now (work .exit))) ⌝ }
 {
     let outcome = training::train_step(
         widths,
@@ -170,16 +148,7 @@ pub extern "C" fn kan_train_step(
         gradients,
         work,
     );
-    match outcome {
-        Outcome::Done => {
-            *carried = 0;
-            0
-        }
-        Outcome::Refused(refusal) => {
-            *carried = refusal.carried;
-            refusal.number
-        }
-    }
+    tell(outcome, carried)
 }
 
 #[no_mangle]
@@ -198,9 +167,11 @@ pub extern "C" fn kan_train(
     done: &mut usize,
     carried: &mut usize,
 ) -> u32
-    ensures { λ r. ⌜ TrainLinked (now (widths .entry)) (gridOf intervals lo hi) (now (model .entry)) (now (inputs .entry))
-        (now (targets .entry)) rate (now (gradients .entry)) (now (work .entry)) steps r
-        (now (model .exit)) (now (gradients .exit)) (now (work .exit)) (now (done .exit)) (now (carried .exit)) ⌝ }
+    ensures { λ r. ⌜ Linked trainingRefusal r (now (carried .exit)) (λ o.
+        Trained (netOf (gridOf intervals lo hi)) (now (widths .entry)) (gridOf intervals lo hi) (now (model .entry))
+        (now (inputs .entry)) (now (targets .entry)) rate (now (gradients .entry)) (now (work .entry)) steps o
+        (now (model .exit)) (now (gradients .exit)) (now (work .exit))
+        × (now (done .exit) ≡ stepsDone o)) ⌝ }
 {
     let answer = training::train(
         widths,
@@ -213,18 +184,7 @@ pub extern "C" fn kan_train(
         gradients,
         work,
     );
-    match answer {
-        Training::All(all) => {
-            *done = all;
-            *carried = 0;
-            0
-        }
-        Training::Stopped(stop) => {
-            *done = stop.done;
-            *carried = stop.carried;
-            stop.number
-        }
-    }
+    tell_training(answer, done, carried)
 }
 
 #[no_mangle]
@@ -240,11 +200,12 @@ pub extern "C" fn kan_visits(
     map: &mut [u8],
     carried: &mut usize,
 ) -> u32
-    ensures { λ r. ⌜ VisitsLinked (now (widths .entry)) (gridOf intervals lo hi) (now (model .entry)) (now (inputs .entry))
-        (now (first .entry)) (now (second .entry)) (now (map .entry)) r
-        (now (first .exit)) (now (second .exit)) (now (map .exit)) (now (carried .exit)) ⌝ }
+    ensures { λ r. ⌜ Linked outcomeRefusal r (now (carried .exit)) (λ o.
+        Visited (netOf (gridOf intervals lo hi)) (now (widths .entry)) (gridOf intervals lo hi) (now (model .entry))
+        (now (inputs .entry)) (now (first .entry)) (now (second .entry)) (now (map .entry)) o
+        (now (first .exit)) (now (second .exit)) (now (map .exit))) ⌝ }
 {
-    let outcome = visits::visit_map(
+    let outcome = visit_map::visit_map(
         widths,
         Grid { intervals, lo, hi },
         model,
@@ -253,16 +214,7 @@ pub extern "C" fn kan_visits(
         second,
         map,
     );
-    match outcome {
-        Outcome::Done => {
-            *carried = 0;
-            0
-        }
-        Outcome::Refused(refusal) => {
-            *carried = refusal.carried;
-            refusal.number
-        }
-    }
+    tell(outcome, carried)
 }
 
 #[no_mangle]
@@ -275,20 +227,12 @@ pub extern "C" fn kan_image_write(
     image: &mut [u8],
     carried: &mut usize,
 ) -> u32
-    ensures { λ r. ⌜ WriteLinked (now (widths .entry)) (gridOf intervals lo hi) (now (model .entry)) (now (image .entry)) r
-        (now (image .exit)) (now (carried .exit)) ⌝ }
+    ensures { λ r. ⌜ Linked outcomeRefusal r (now (carried .exit)) (λ o.
+        ImageWritten (now (widths .entry)) (gridOf intervals lo hi) (now (model .entry)) (now (image .entry)) o
+        (now (image .exit))) ⌝ }
 {
-    let outcome = image::write(widths, Grid { intervals, lo, hi }, model, image);
-    match outcome {
-        Outcome::Done => {
-            *carried = 0;
-            0
-        }
-        Outcome::Refused(refusal) => {
-            *carried = refusal.carried;
-            refusal.number
-        }
-    }
+    let outcome = image_writing::write(widths, Grid { intervals, lo, hi }, model, image);
+    tell(outcome, carried)
 }
 
 #[no_mangle]
@@ -301,26 +245,14 @@ pub extern "C" fn kan_image_read(
     parameters: &mut usize,
     carried: &mut usize,
 ) -> u32
-    ensures { λ r. ⌜ ReadLinked (now (image .entry)) (now (intervals .entry)) (now (lo .entry)) (now (hi .entry))
-        (now (widths .entry)) (now (parameters .entry)) r (now (intervals .exit)) (now (lo .exit)) (now (hi .exit))
-        (now (widths .exit)) (now (parameters .exit)) (now (carried .exit)) ⌝ }
+    ensures { λ r. ⌜ Linked describedRefusal r (now (carried .exit)) (λ o.
+        (o ≡ describeOf (now (image .entry)))
+        × (descriptionOf (now (intervals .exit)) (now (lo .exit)) (now (hi .exit)) (now (widths .exit))
+        (now (parameters .exit)) ≡ descriptionOr o (descriptionOf (now (intervals .entry)) (now (lo .entry))
+        (now (hi .entry)) (now (widths .entry)) (now (parameters .entry))))) ⌝ }
 {
-    let described = image::describe(image);
-    match described {
-        Described::Sound(description) => {
-            *intervals = description.grid.intervals;
-            *lo = description.grid.lo;
-            *hi = description.grid.hi;
-            *widths = description.widths;
-            *parameters = description.parameters;
-            *carried = 0;
-            0
-        }
-        Described::Refused(refusal) => {
-            *carried = refusal.carried;
-            refusal.number
-        }
-    }
+    let described = image_reading::describe(image);
+    tell_description(described, intervals, lo, hi, widths, parameters, carried)
 }
 
 #[no_mangle]
@@ -330,18 +262,10 @@ pub extern "C" fn kan_image_unpack(
     model: &mut [f32],
     carried: &mut usize,
 ) -> u32
-    ensures { λ r. ⌜ UnpackLinked (now (image .entry)) (now (widths .entry)) (now (model .entry)) r
-        (now (widths .exit)) (now (model .exit)) (now (carried .exit)) ⌝ }
+    ensures { λ r. ⌜ Linked outcomeRefusal r (now (carried .exit)) (λ o.
+        Unpacked (now (image .entry)) (now (widths .entry)) (now (model .entry)) o
+        (now (widths .exit)) (now (model .exit))) ⌝ }
 {
-    let outcome = image::unpack(image, widths, model);
-    match outcome {
-        Outcome::Done => {
-            *carried = 0;
-            0
-        }
-        Outcome::Refused(refusal) => {
-            *carried = refusal.carried;
-            refusal.number
-        }
-    }
+    let outcome = image_unpacking::unpack(image, widths, model);
+    tell(outcome, carried)
 }

@@ -9,21 +9,23 @@ use lib.Dec.{T, eqb, eqb→eq, lit<, lit≤}
 use lib.Seq.{ext-getD}
 use lib.Ieee.{Float, nan, binary32, fits, ofBits, round, add, sub, mul, div, neg, sum, eq, lt, le, ofInt}
 use Rattle.floats.specs.Binary32.{zero32, minusZero32, one32}
-use Rattle.floats.specs.Sums.{at, allTo, allFinite}
+use Rattle.floats.specs.Sums.{at, tabulate, allTo, allFinite, zeros}
 use Rattle.spline.specs.Spline.{widthOf, knotOf, portionOf, indicatorOf, blendOf, coxOf, outsideOf, valueOf, slopeOf}
-use Rattle.layers.specs.Basis.{basisOf}
-use Rattle.layers.specs.Widths.{paramsTo}
-use Rattle.rows.specs.Pass.{nodesOf}
-use Rattle.rows.specs.Batch.{rowsIn}
-use Rattle.config.specs.declared.Checked.{Checked}
-use Rattle.config.specs.declared.Outcome.{Outcome}
-use Rattle.admission.specs.Admission.{furnished, answered, written, sweptOf, parametersOf, twiceNodes}
-use Rattle.training.specs.Train.{modelAfter, trainFault, trainModel, outcomeOf}
+use Rattle.layers.specs.Net.{netOf}
+use Rattle.passes.specs.Pass.{nodesOf}
+use Rattle.batches.specs.Batch.{rowsIn}
+use Rattle.refusals.specs.declared.Outcome.{Outcome}
+use Rattle.refusals.specs.declared.Outcome.the-variants.{Done}
+use Rattle.refusals.specs.Refusals.{outcomeOf}
+use Rattle.layers.specs.Widths.{widthsTo, paramsTo, parametersIn, nodesIn}
+use Rattle.config.specs.Config.{carriedBy}
+use Rattle.admission.specs.Admission.{upTo9InTraining, swept}
+use Rattle.training.specs.Train.{modelAfter}
 use Rattle.demands.specs.Silent.{Differ, RowSilent}
 use Rattle.demands.specs.Readings.{TrainReads}
 use Rattle.demands.specs.Alike.{LeftAlike}
 use Rattle.demands.proofs.Demand.{demand-3}
-use Rattle.examples.specs.Starred.{bits, unitGrid, oneToOne, weighted, fiveZeros}
+use Rattle.examples.specs.Starred.{bits, unitGrid, oneToOne, weighted, fiveZeros, stepRefusal, afterStep}
 use Rattle.examples.specs.Instance.{outer, changed, Instance}
 use Rattle.examples.proofs.Starred.{starred}
 
@@ -68,7 +70,7 @@ differs =
     }
 
 -- ---- what its one row reads
-row-silent : RowSilent (basisOf (unitGrid 2)) oneToOne outer (weighted fiveZeros) (zero32 ∷ [])
+row-silent : RowSilent (netOf (unitGrid 2)) oneToOne outer (weighted fiveZeros) (zero32 ∷ [])
 unfolding paramsTo nodesOf valueOf slopeOf coxOf outsideOf blendOf indicatorOf portionOf knotOf widthOf ofBits add sub mul div neg round sum
     ofInt eq lt le
 row-silent zero zero zero zero inside ol il kl d reached = (tt, tt)
@@ -81,46 +83,43 @@ row-silent zero zero (suc i) k inside ol il kl d reached = absurd (omega arith)
 row-silent zero (suc o) i k inside ol il kl d reached = absurd (omega arith)
 row-silent (suc l) o i k inside ol il kl d reached = absurd (omega arith)
 
-reads : TrainReads (basisOf (unitGrid 2)) oneToOne outer (weighted fiveZeros) (zero32 ∷ []) (one32 ∷ []) (bits 0x3f00_0000) 1
+reads : TrainReads (netOf (unitGrid 2)) oneToOne outer (weighted fiveZeros) (zero32 ∷ []) (one32 ∷ []) (bits 0x3f00_0000) 1
 unfolding modelAfter rowsIn
 reads zero h clear zero l before = row-silent
 reads zero h clear (suc r) l before = absurd (omega arith)
 reads (suc s) h clear r l before = absurd (omega arith)
 
 -- ---- the step on both, lent 7 and 4 numbers
-abbrev gradients : List Float
-gradients = weighted fiveZeros
-
-abbrev work : List Float
-work = zero32 ∷ zero32 ∷ zero32 ∷ zero32 ∷ []
-
-abbrev supply : Checked
-supply = furnished oneToOne (unitGrid 2) 7 7 4
+abbrev checks : ℕ
+checks = upTo9InTraining oneToOne (unitGrid 2) 7 7 4
 
 abbrev answerOf : List Float → Outcome
-answerOf ms = answered supply (outcomeOf (trainFault (basisOf (unitGrid 2)) ms oneToOne (zero32 ∷ []) (one32 ∷ []) (bits 0x3f00_0000) 1))
-
-abbrev after : List Float → List Float
-after ms = written supply ms (trainModel (basisOf (unitGrid 2)) ms oneToOne (zero32 ∷ []) (one32 ∷ []) (bits 0x3f00_0000) 1)
+answerOf ms = outcomeOf (stepRefusal ms) (carriedBy checks 7)
 
 alike : (answerOf (weighted fiveZeros) ≡ answerOf changed)
-    × LeftAlike outer (weighted fiveZeros) changed (after (weighted fiveZeros)) (after changed)
+    × LeftAlike outer (weighted fiveZeros) changed (afterStep (weighted fiveZeros)) (afterStep changed)
+unfolding tabulate paramsTo widthsTo
 alike =
-    let cleared = sweptOf parametersOf supply gradients in
-    let swept = sweptOf twiceNodes supply work in
+    let cleared = swept checks 7 (zeros 7) in
+    let bare = swept checks 4 (zeros 4) in
     let both = demand-3 oneToOne (unitGrid 2) outer (weighted fiveZeros) changed differs .step (zero32 ∷ []) (one32 ∷ []) (bits 0x3f00_0000)
-    gradients work (λ admitted sound. reads) (answerOf (weighted fiveZeros)) (answerOf changed) (after (weighted fiveZeros)) cleared swept
-    (after changed) cleared swept (record { answer = refl; model = refl; gradients = refl; work = refl })
-    (record { answer = refl; model = refl; gradients = refl; work = refl }) in
+    (zeros 7) (zeros 4) (λ sound. reads) (answerOf (weighted fiveZeros)) (answerOf changed) (afterStep (weighted fiveZeros)) cleared bare
+    (afterStep changed) cleared bare (record { answer = refl; leaves = record { model = refl; gradients = refl; work = refl } })
+    (record { answer = refl; leaves = record { model = refl; gradients = refl; work = refl } }) in
     (both .0, both .1)
+
+-- an answer that is `Done` has no refusal
+not-refused : (n c : ℕ) → outcomeOf n c ≡ Done → n ≡ 0
+not-refused zero c e = refl
+not-refused (suc n) c e = let z : _≡_ {A = ℕ} 0 1 = cc in absurd (omega arith)
 
 abbrev moved : List Float
 moved = weighted (bits 0xc0f0_0000 ∷ bits 0x3e2a_aaab ∷ bits 0x3f2a_aaab ∷ bits 0x3e2a_aaab ∷ minusZero32 ∷ [])
 
-left-at : (p : ℕ) → at (after changed) p ≡ at moved p
+left-at : (p : ℕ) → at (afterStep changed) p ≡ at moved p
 left-at p = go (outer p) refl
   where
-    go : (b : Bool) → outer p ≡ b → at (after changed) p ≡ at moved p
+    go : (b : Bool) → outer p ≡ b → at (afterStep changed) p ≡ at moved p
     go true d = alike .1 .kept p d .1 ∙ of-both (λ p. at changed p ≡ at moved p) refl refl p d
     go false d =
         sym (alike .1 .others p d) ∙ ap (λ (ms : List Float). at ms p) (starred .stepped)
@@ -133,6 +132,6 @@ met =
       apart = refl;
       differ = differs;
       reads = reads;
-      taken = sym (alike .0) ∙ starred .accepted;
-      left = ext-getD nan (after changed) moved (alike .1 .sizes .1) (λ p h. left-at p);
+      taken = not-refused _ (carriedBy checks 7) (sym (alike .0) ∙ ap (λ (n : ℕ). outcomeOf n (carriedBy checks 7)) (starred .accepted));
+      left = ext-getD nan (afterStep changed) moved (alike .1 .sizes .1) (λ p h. left-at p);
     }

@@ -5,25 +5,29 @@ use Rattle.floats.specs.Sums.{sumFrom, tabulate, allTo, allFinite, flatTo}
 use Rattle.exponential.specs.Exponential.{expOf}
 use Rattle.spline.specs.Spline.{widthOf, knotOf, portionOf, indicatorOf, blendOf, coxOf, outsideOf, valueOf, slopeOf}
 use Rattle.spline.specs.Activation.{siluOf, siluDerivativeOf}
-use Rattle.layers.specs.Widths.{paramsTo}
+use Rattle.layers.specs.Widths.{paramsTo, widestTo, widthsTo}
 use Rattle.layers.specs.Layer.{dotOf, edgeWith, edgeOf, nodeOf, layerOf}
-use Rattle.rows.specs.Pass.{nodesOf, nodesFinite, rowFault}
-use Rattle.rows.specs.Batch.{rowsIn, firstFault, doneTo, rowsFault, batchFault}
-use Rattle.config.specs.Config.{checkOf, unless}
-use Rattle.admission.specs.Admission.{admitted, supplied, equipped, furnished}
-use Rattle.loss.specs.Loss.{addError, errorsTo, lossTo, lossOf}
-use Rattle.gradients.specs.Gradient.{slotOf, backOf, backLayer, layerSlots, upsOf, rowGradient}
-use Rattle.descent.specs.Accumulate.{allPass, gathered, movesFinite, movedOf}
-use Rattle.training.specs.Step.{rateSound, trainingFault, gradientOf, stepFault, stepped}
-use Rattle.training.specs.Train.{modelAfter, startFault, trainFault, trainDone, trainModel}
+use Rattle.refusals.specs.Refusals.{firstTo, doneTo}
+use Rattle.batches.specs.Batch.{rowsIn, rowFault, rowsFault, batchFault}
+use Rattle.passes.specs.Pass.{nodesOf, nodesFinite}
+use Rattle.config.specs.Config.{configFault, shapeSound, productsFit, intervalsSound, movesMinusOne, endsSound, stepsSound}
+use Rattle.admission.specs.Admission.{upTo8, upTo9, upTo9InTraining}
+use Rattle.loss.specs.Loss.{sumAfter, from11To18}
+use Rattle.gradients.specs.Gradient.{slotOf, backOf, backLayer, layerSlots}
+use Rattle.row_gradients.specs.Backward.{upsOf, rowGradient}
+use Rattle.batch_gradients.specs.Accumulate.{allPass, gathered}
+use Rattle.update.specs.Update.{movesFinite, movedOf}
+use Rattle.training_step.specs.Step.{gradientOf, stepFault, stepped}
+use Rattle.training.specs.Train.{rateSound, from11To19, modelAfter, upTo19, trainFault, trainDone}
 use Rattle.examples.specs.Starred.{Starred}
 
 pub starred : Starred
 unfolding ofBits round add sub mul div neg sum eq lt le ofInt sumFrom tabulate allTo allFinite flatTo expOf widthOf knotOf portionOf
-    indicatorOf blendOf coxOf outsideOf valueOf slopeOf siluOf siluDerivativeOf paramsTo dotOf edgeWith edgeOf nodeOf layerOf nodesOf
-    nodesFinite rowFault rowsIn firstFault doneTo rowsFault batchFault checkOf unless admitted supplied equipped furnished addError
-    errorsTo lossTo lossOf slotOf backOf backLayer layerSlots upsOf rowGradient allPass gathered movesFinite movedOf rateSound
-    trainingFault gradientOf stepFault stepped modelAfter startFault trainFault trainDone trainModel
+    indicatorOf blendOf coxOf outsideOf valueOf slopeOf siluOf siluDerivativeOf paramsTo widestTo widthsTo dotOf edgeWith edgeOf nodeOf
+    layerOf nodesOf nodesFinite rowFault rowsIn firstTo doneTo rowsFault batchFault configFault shapeSound productsFit intervalsSound
+    movesMinusOne endsSound stepsSound upTo8 upTo9 upTo9InTraining sumAfter from11To18 slotOf backOf backLayer layerSlots upsOf
+    rowGradient allPass gathered movesFinite movedOf gradientOf stepFault stepped rateSound from11To19 modelAfter upTo19 trainFault
+    trainDone
 starred =
     record {
       largest = refl;

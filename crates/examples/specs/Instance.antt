@@ -7,13 +7,10 @@ use lib.Dec.{eqb}
 use lib.Ieee.{Float, eq}
 use Rattle.floats.specs.Binary32.{zero32, minusZero32, one32}
 use Rattle.floats.specs.Sums.{at}
-use Rattle.layers.specs.Basis.{basisOf}
-use Rattle.config.specs.declared.Outcome.the-variants.{Done}
-use Rattle.admission.specs.Admission.{furnished, answered, written}
-use Rattle.training.specs.Train.{trainFault, trainModel, outcomeOf}
+use Rattle.layers.specs.Net.{netOf}
 use Rattle.demands.specs.Silent.{Places, Differ}
 use Rattle.demands.specs.Readings.{TrainReads}
-use Rattle.examples.specs.Starred.{bits, unitGrid, oneToOne, weighted, fiveZeros}
+use Rattle.examples.specs.Starred.{bits, unitGrid, oneToOne, weighted, fiveZeros, stepRefusal, afterStep}
 
 -- the first and the last coefficient
 abbrev pub outer : Places
@@ -26,10 +23,8 @@ changed = weighted (bits 0xc0f0_0000 ∷ zero32 ∷ zero32 ∷ zero32 ∷ minusZ
 pub record Instance : Type 0 where
   pub apart : eq (at (weighted fiveZeros) 2) (at changed 2) ≡ false
   pub differ : Differ 7 outer (weighted fiveZeros) changed
-  pub reads : TrainReads (basisOf (unitGrid 2)) oneToOne outer (weighted fiveZeros) (zero32 ∷ []) (one32 ∷ []) (bits 0x3f00_0000) 1
+  pub reads : TrainReads (netOf (unitGrid 2)) oneToOne outer (weighted fiveZeros) (zero32 ∷ []) (one32 ∷ []) (bits 0x3f00_0000) 1
   -- so the settled example is the changed model's too: the step is taken, the inner coefficients move alike, and -7.5 and -0.0 stay
-  pub taken : answered (furnished oneToOne (unitGrid 2) 7 7 4)
-      (outcomeOf (trainFault (basisOf (unitGrid 2)) changed oneToOne (zero32 ∷ []) (one32 ∷ []) (bits 0x3f00_0000) 1)) ≡ Done
-  pub left : written (furnished oneToOne (unitGrid 2) 7 7 4) changed
-      (trainModel (basisOf (unitGrid 2)) changed oneToOne (zero32 ∷ []) (one32 ∷ []) (bits 0x3f00_0000) 1)
+  pub taken : stepRefusal changed ≡ 0
+  pub left : afterStep changed
       ≡ weighted (bits 0xc0f0_0000 ∷ bits 0x3e2a_aaab ∷ bits 0x3f2a_aaab ∷ bits 0x3e2a_aaab ∷ minusZero32 ∷ [])

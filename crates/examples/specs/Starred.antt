@@ -5,19 +5,18 @@ use mathlib.Core.Path.{_≡_}
 use mathlib.Core.List.{List, [], _∷_}
 use lib.Ieee.{Float, binary32, ofBits}
 use Rattle.floats.specs.Binary32.{zero32, one32}
-use Rattle.floats.specs.Sums.{tabulate}
+use Rattle.floats.specs.Sums.{tabulate, zeros}
 use Rattle.exponential.specs.Exponential.{expOf}
 use Rattle.spline.specs.declared.Grid.{Grid}
 use Rattle.spline.specs.Spline.{valueOf, slopeOf}
 use Rattle.spline.specs.Activation.{siluDerivativeOf}
-use Rattle.layers.specs.Basis.{basisOf}
-use Rattle.config.specs.declared.Checked.the-variants.{Sound}
-use Rattle.config.specs.declared.Outcome.the-variants.{Done}
-use Rattle.config.specs.Config.{checkOf, refuse}
-use Rattle.admission.specs.Admission.{equipped, furnished, answered, written}
+use Rattle.layers.specs.Net.{Net, netOf}
+use Rattle.config.specs.declared.Checked.{Checked}
+use Rattle.config.specs.declared.Checked.the-variants.{Sound, Refused}
+use Rattle.config.specs.Config.{checkOf}
 use Rattle.loss.specs.declared.Loss.the-variants.{Mean}
-use Rattle.loss.specs.Loss.{lossOf, lossAnswer}
-use Rattle.training.specs.Train.{trainFault, trainModel, outcomeOf}
+use Rattle.loss.specs.Loss.{lossAnswer}
+use Rattle.training.specs.Train.{modelAfter, trainFault, trainDone}
 
 abbrev pub bits : ℕ → Float
 bits n = ofBits binary32 n
@@ -46,6 +45,20 @@ fiveZeros = zero32 ∷ zero32 ∷ zero32 ∷ zero32 ∷ zero32 ∷ []
 abbrev pub weighted : List Float → List Float
 weighted coefficients = zero32 ∷ one32 ∷ coefficients
 
+-- a refused configuration: the number, and what it carries
+abbrev pub refuse : ℕ → ℕ → Checked
+refuse n c = Refused (record { number = n; carried = c })
+
+-- "[1, 1], g 2 .. input 0, target 1, rate 0.5" on a model, lent just what is needed: the step's refusal, and the model after it
+abbrev pub stepRefusal : List Float → ℕ
+stepRefusal ms =
+    trainFault (netOf (unitGrid 2)) oneToOne (unitGrid 2) ms (zero32 ∷ []) (one32 ∷ []) (bits 0x3f00_0000) (zeros 7) (zeros 4) 1
+
+abbrev pub afterStep : List Float → List Float
+afterStep ms =
+    modelAfter (netOf (unitGrid 2)) ms oneToOne (zero32 ∷ []) (one32 ∷ []) (bits 0x3f00_0000)
+    (trainDone (netOf (unitGrid 2)) oneToOne (unitGrid 2) ms (zero32 ∷ []) (one32 ∷ []) (bits 0x3f00_0000) (zeros 7) (zeros 4) 1)
+
 pub record Starred : Type 0 where
   -- "[1, 1], g 249,995: accepted"
   pub largest : checkOf oneToOne (unitGrid 249995) ≡ Sound (record { parameters = 250000; widest = 1; nodes = 2 })
@@ -72,11 +85,9 @@ pub record Starred : Type 0 where
   pub exponential : expOf zero32 ≡ one32
   pub derivative : siluDerivativeOf zero32 ≡ bits 0x3f00_0000
   -- "[1, 1], g 2, weights 0 and 1, coefficients 0, input 0, target 1, rate 0.5: loss 1", with just the work that is needed
-  pub loss : lossAnswer (equipped oneToOne (unitGrid 2) 7 1 1)
-      (lossOf (basisOf (unitGrid 2)) (weighted fiveZeros) oneToOne (zero32 ∷ []) (one32 ∷ [])) ≡ Mean one32
+  pub loss : lossAnswer (netOf (unitGrid 2)) oneToOne (unitGrid 2) (weighted fiveZeros) (zero32 ∷ []) (one32 ∷ []) (zeros 1) (zeros 1)
+      ≡ Mean one32
   -- "after a step the coefficients are 0, 3E2AAAAB, 3F2AAAAB, 3E2AAAAB, 0": the step is accepted, and the weights stay
-  pub accepted : answered (furnished oneToOne (unitGrid 2) 7 7 4)
-      (outcomeOf (trainFault (basisOf (unitGrid 2)) (weighted fiveZeros) oneToOne (zero32 ∷ []) (one32 ∷ []) (bits 0x3f00_0000) 1)) ≡ Done
-  pub stepped : written (furnished oneToOne (unitGrid 2) 7 7 4) (weighted fiveZeros)
-      (trainModel (basisOf (unitGrid 2)) (weighted fiveZeros) oneToOne (zero32 ∷ []) (one32 ∷ []) (bits 0x3f00_0000) 1)
+  pub accepted : stepRefusal (weighted fiveZeros) ≡ 0
+  pub stepped : afterStep (weighted fiveZeros)
       ≡ weighted (zero32 ∷ bits 0x3e2a_aaab ∷ bits 0x3f2a_aaab ∷ bits 0x3e2a_aaab ∷ zero32 ∷ [])

@@ -73,7 +73,7 @@ fn drawn_forward_lent(
     model: &mut [f32],
     row: &[f32],
 ) -> bool {
-    start::initialise(widths, grid, seed.word(words), model);
+    initialisation::initialise(widths, grid, seed.word(words), model);
     forward_lent(words, at, widths, grid, model, row)
 }
 
@@ -116,7 +116,7 @@ fn forward_meets(
     second: &mut [f32],
 ) -> bool {
     let mut number = 99u32;
-    let part = single::forward(&mut number, widths, grid, model, row, first, second);
+    let part = forward::forward(&mut number, widths, grid, model, row, first, second);
     let handed = at.meet(words, part.len() as u64).meet_floats(words, part);
     let told = handed.meet(words, number as u64);
     let worked = told.meet_floats(words, first).meet_floats(words, second);

@@ -5,7 +5,8 @@ use native.Mathlib.Nat.{le-trans, le-of-eq, mul-assoc, mul-one, mul-le-mul-left}
 use native.Mathlib.Omega.{arith}
 use Rattle.floats.proofs.Loops.{room}
 
--- the edge of output o and input i lies within the parameters of n outputs of w inputs each, and its number is no larger
+-- the edge of output o and input i lies within the parameters of n outputs of w inputs each, and its number is no
+-- larger
 pub edge-room : (o n i w s L : ℕ) → o < n → i < w → n * (w * s) ≤ L → (o * w + i) * s + s ≤ L
 edge-room o n i w s L a b h =
     let r : o * w + w ≤ n * w = room o n w (n * w) a (le-of-eq refl) in

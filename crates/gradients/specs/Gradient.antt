@@ -1,14 +1,12 @@
--- A row's gradients: source 000's `backward_accumulate` cell by cell, each sum in the Rust's order. Definitions only.
-use Prim.Native.Nat.{ℕ, zero, suc, _+_, _-_, _*_}
+-- One layer of a row's gradients: source 000's `backward_accumulate` cell by cell, sums in its order. Definitions only.
+use Prim.Native.Nat.{ℕ, zero, suc, _+_, _*_}
 use mathlib.Core.List.{List}
 use lib.ListN.{length, drop}
 use lib.Ieee.{Float}
-use Rattle.floats.specs.Binary32.{_⊕_, _⊖_, _⊗_}
-use Rattle.floats.specs.Sums.{sumTo, sumFrom, tabulate, flatTo, at}
+use Rattle.floats.specs.Binary32.{_⊕_, _⊗_}
+use Rattle.floats.specs.Sums.{sumTo, tabulate, flatTo, at}
 use Rattle.layers.specs.Basis.{Basis}
-use Rattle.layers.specs.Widths.{widthAt, paramsTo}
 use Rattle.layers.specs.Layer.{dotOf}
-use Rattle.rows.specs.Pass.{nodesOf}
 
 -- ---- one edge whose parameters begin the list, at the input x, with what comes from above
 -- what a row adds to the gradient of its s-th parameter: base weight, spline weight, coefficients
@@ -44,22 +42,3 @@ nodeSlots B ps xs ups o = flatTo (edgeSlots B (drop (o * (length xs * B .stride)
 
 unfoldable pub layerSlots : Basis → List Float → List Float → List Float → List Float
 layerSlots B ps xs ups = flatTo (nodeSlots B ps xs ups) (length ups)
-
--- ---- a row: scale · (output - target) at the outputs, then layer by layer back
-abbrev pub outputGradient : List Float → List Float → Float → ℕ → Float
-outputGradient os ts scale j = scale ⊗ (at os j ⊖ at ts j)
-
--- the gradients at the nodes that layer l reads, k layers before the outputs: l + k is the number of layers
-unfoldable pub upsOf : Basis → List Float → List ℕ → List Float → List Float → Float → ℕ → ℕ → List Float
-upsOf B ps ws xs ts scale l zero = tabulate (outputGradient (nodesOf B ps ws xs l) ts scale) (widthAt ws l)
-upsOf B ps ws xs ts scale l (suc k) =
-    backLayer B (drop (paramsTo (B .stride) ws l) ps) (nodesOf B ps ws xs l) (upsOf B ps ws xs ts scale (suc l) k)
-
--- what layer l's parameters receive from a row, of `layers` layers in all
-abbrev pub rowSlots : Basis → List Float → List ℕ → List Float → List Float → Float → ℕ → ℕ → List Float
-rowSlots B ps ws xs ts scale layers l =
-    layerSlots B (drop (paramsTo (B .stride) ws l) ps) (nodesOf B ps ws xs l) (upsOf B ps ws xs ts scale (suc l) (layers - suc l))
-
--- all parameters, in the flat order
-unfoldable pub rowGradient : Basis → List Float → List ℕ → List Float → List Float → Float → List Float
-rowGradient B ps ws xs ts scale = flatTo (rowSlots B ps ws xs ts scale (length ws - 1)) (length ws - 1)

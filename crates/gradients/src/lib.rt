@@ -1,10 +1,11 @@
-// Inner crate: the gradients of source 000's backward pass (specs/), and one layer of it: what a row adds to the gradients of
-// the layer's parameters, and what it hands back to the layer's inputs.
+// Inner crate: the gradients of source 000's backward pass (specs/), and one layer of it: what a row adds to the
+// gradients of the layer's parameters, and what it hands back to the layer's inputs.
 ghost use mathlib.Core.Path.{_≡_};
 ghost use Prim.Native.Nat.{_+_, _*_, _≤_, _<_};
 ghost use lib.ListN.{length};
 ghost use Rattle.floats.specs.Sums.{tabulate, flatTo};
-ghost use Rattle.layers.specs.Basis.{basisOf, Basis};
+ghost use Rattle.layers.specs.Basis.{Basis};
+ghost use Rattle.layers.specs.Net.{basisOf};
 ghost use Rattle.layers.specs.Layer.{dotOf};
 ghost use Rattle.gradients.specs.Gradient.{slotOf, edgeSlots, layerSlots, inputGradient};
 ghost use Rattle.gradients.specs.Steps.{plusOf, Cells, backWith, weighted};
@@ -23,7 +24,8 @@ fn slope_dot(grid: Grid, coefficients: &[f32], x: f32) -> f32
     sum
 }
 
-// What an edge hands back to its input, where the caller has worked out the rise of SiLU once for all edges that read x.
+// What an edge hands back to its input, where the caller has worked out the rise of SiLU once for all edges that read
+// x.
 fn back(grid: Grid, params: &[f32], x: f32, rise: f32, up: f32) -> f32
     requires { ⌜ (grid .intervals ≤ 250000) × (grid .intervals + 5 ≤ length (now params)) ⌝ }
     ensures { λ r. ⌜ r ≡ backWith (basisOf grid) (now (params .entry)) x rise up ⌝ }
@@ -36,7 +38,8 @@ fn back(grid: Grid, params: &[f32], x: f32, rise: f32, up: f32) -> f32
 pub fn input_gradient(grid: Grid, params: &[f32], inputs: &[f32], ups: &[f32], i: usize) -> f32
     requires { ⌜ (grid .intervals ≤ 250000) × (i < length (now inputs))
         × (length (now ups) * (length (now inputs) * (grid .intervals + 5)) ≤ length (now params)) ⌝ }
-    ensures { λ r. ⌜ r ≡ inputGradient (basisOf grid) (now (params .entry)) (now (inputs .entry)) (now (ups .entry)) i ⌝ }
+    ensures { λ r. ⌜ r ≡ inputGradient (basisOf grid) (now (params .entry)) (now (inputs .entry))
+        (now (ups .entry)) i ⌝ }
 {
     let stride = grid.intervals + 5;
     let w = inputs.len();
@@ -51,7 +54,8 @@ pub fn input_gradient(grid: Grid, params: &[f32], inputs: &[f32], ups: &[f32], i
     gradient
 }
 
-// Adds a row's part to the gradients of an edge's coefficients, where u is what comes from above times the spline weight.
+// Adds a row's part to the gradients of an edge's coefficients, where u is what comes from above times the spline
+// weight.
 pub fn add_coefficients(grid: Grid, u: f32, x: f32, gradients: &mut [f32])
     requires { ⌜ (grid .intervals ≤ 250000) × (grid .intervals + 3 ≤ length (now gradients)) ⌝ }
     ensures { λ _. ⌜ now (gradients .exit)
@@ -67,7 +71,8 @@ pub fn add_coefficients(grid: Grid, u: f32, x: f32, gradients: &mut [f32])
 fn add_edge(grid: Grid, params: &[f32], x: f32, up: f32, gradients: &mut [f32])
     requires { ⌜ Cells grid (grid .intervals + 5) (now params) (now gradients) ⌝ }
     ensures { λ _. ⌜ now (gradients .exit)
-        ≡ plusOf (now (gradients .entry)) (tabulate (slotOf (basisOf grid) (now (params .entry)) x up) (grid .intervals + 5)) ⌝ }
+        ≡ plusOf (now (gradients .entry))
+        (tabulate (slotOf (basisOf grid) (now (params .entry)) x up) (grid .intervals + 5)) ⌝ }
 {
     gradients[0] = gradients[0] + up * spline::silu(x);
     gradients[1] = gradients[1] + up * layers::dot(grid, &params[2..], x);
@@ -78,7 +83,8 @@ fn add_edge(grid: Grid, params: &[f32], x: f32, up: f32, gradients: &mut [f32])
 fn add_node(grid: Grid, params: &[f32], inputs: &[f32], up: f32, gradients: &mut [f32])
     requires { ⌜ Cells grid (length (now inputs) * (grid .intervals + 5)) (now params) (now gradients) ⌝ }
     ensures { λ _. ⌜ now (gradients .exit) ≡ plusOf (now (gradients .entry))
-        (flatTo (edgeSlots (basisOf grid) (now (params .entry)) (now (inputs .entry)) up) (length (now (inputs .entry)))) ⌝ }
+        (flatTo (edgeSlots (basisOf grid) (now (params .entry)) (now (inputs .entry)) up)
+        (length (now (inputs .entry)))) ⌝ }
 {
     let stride = grid.intervals + 5;
     for i in 0..inputs.len() {

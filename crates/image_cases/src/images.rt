@@ -1,10 +1,11 @@
-// One function for each call that takes an image: whether it answers and leaves what the case says. Before unpacking every width
-// is 77 and every parameter 5.0, so that what stays unchanged is seen too. A length has the name of its letter in the case.
+// One function for each call that takes an image: whether it answers and leaves what the case says. Before unpacking
+// every width is 77 and every parameter 5.0, so that what stays unchanged is seen too. A length has the name of its
+// letter in the case.
 use case_reading::Cursor;
 use case_reading::bytes_here;
 use case_reading::length_here;
-use image::Described;
-use image::Description;
+use image_reading::Described;
+use image_reading::Description;
 
 // N image.. number carried, and g lo hi K P where it is accepted
 pub fn describe_agrees(words: &[u64]) -> bool {
@@ -12,7 +13,7 @@ pub fn describe_agrees(words: &[u64]) -> bool {
     let bytes = image.values;
     let n = image.count;
     let at = image.next;
-    match image::describe(&bytes[..n]) {
+    match image_reading::describe(&bytes[..n]) {
         Described::Sound(description) => {
             let answered = at.meet_accepted(words);
             meet_description(words, answered, description).is_end(words)
@@ -40,7 +41,7 @@ pub fn read_agrees(words: &[u64]) -> bool {
 // From the number on, which is 9 before the call.
 fn read_meets(words: &[u64], at: Cursor, bytes: &[u8]) -> bool {
     let mut number = 9u32;
-    let part = image::read(bytes, &mut number);
+    let part = image_reading::read(bytes, &mut number);
     let told = at.meet(words, number as u64);
     let counted = told.meet(words, part.len() as u64);
     counted.meet_bytes(words, part).is_end(words)
@@ -79,7 +80,7 @@ fn unpack_meets(
     widths: &mut [usize],
     model: &mut [f32],
 ) -> bool {
-    let outcome = image::unpack(bytes, widths, model);
+    let outcome = image_unpacking::unpack(bytes, widths, model);
     let answered = at.meet_outcome(words, outcome);
     let shaped = answered.meet_sizes(words, widths);
     shaped.meet_floats(words, model).is_end(words)

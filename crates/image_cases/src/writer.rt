@@ -1,5 +1,5 @@
-// Whether the writer answers and writes what the case says. Before the call every byte is 85 (hexadecimal 55). A length has the
-// name of its letter in the case.
+// Whether the writer answers and writes what the case says. Before the call every byte is 85 (hexadecimal 55). A length
+// has the name of its letter in the case.
 use case_reading::Cursor;
 use case_reading::floats_here;
 use case_reading::length_here;
@@ -40,7 +40,7 @@ fn meets(
     model: &[f32],
     bytes: &mut [u8],
 ) -> bool {
-    let outcome = image::write(widths, grid, model, bytes);
+    let outcome = image_writing::write(widths, grid, model, bytes);
     let answered = at.meet_outcome(words, outcome);
     answered.meet_bytes(words, bytes).is_end(words)
 }

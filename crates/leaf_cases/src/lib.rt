@@ -1,5 +1,5 @@
-// Inner crate: settled cases of the leaves, each a slice of words. f32 numbers are words of 32 bits. A wrong count of words agrees
-// with nothing.
+// Inner crate: settled cases of the leaves, each a slice of words. f32 numbers are words of 32 bits. A wrong count of
+// words agrees with nothing.
 ghost use Prim.Native.Nat.{_≤_};
 ghost use lib.ListN.{length};
 use generator::SplitMix64;

@@ -1,9 +1,9 @@
-// Program: document 01's listing of the image on standard input. Its files `stdin` and `stdout` are document 01's example.
+// Program: document 01's listing of the image on standard input. Its `stdin` and `stdout` are that document's example.
 use libc::STDIN_FILENO;
 use libc::STDOUT_FILENO;
 
 fn main() {
-    // One byte more than the longest image that is listed tells a longer one. A failed read counts as the end of the input.
+    // One byte more than the longest image that is listed tells a longer one. A failed read counts as the input's end.
     let mut image = [0u8; 65537];
     let length = io::read_full(STDIN_FILENO, &mut image);
     let mut text = listing::room();

@@ -1,5 +1,5 @@
-// Program: listings of images that differ from document 01's example in their length or in a few bytes. Its file `stdout` holds
-// what document 01 asks for each.
+// Program: listings of images that differ from document 01's example in their length or in a few bytes. Its file
+// `stdout` holds what document 01 asks for each.
 ghost use mathlib.Core.Path.{_≡_};
 ghost use Prim.Native.Nat.{_≤_, _<_};
 ghost use lib.ListN.{length};

@@ -1,9 +1,9 @@
--- "Each public call's statement determines its answer and the final contents of all memory lent to it .. that any two outcomes
--- allowed by it coincide is itself shown" (document 01), for what the listing program prints. Assumes nothing.
+-- "Each public call's statement determines its answer and the final contents of all memory lent to it .. that any two
+-- outcomes allowed by it coincide is itself shown" (document 01), for what the listing program prints. Assumes nothing.
 use mathlib.Core.Path.{sym, _∙_}
 use Rattle.floats.proofs.Determined.{Determined}
-use Rattle.listing.proofs.lines.render as render
-use Rattle.listing.proofs.lines.render.Reads as render-reads
+use Rattle.listing.proofs.render as render
+use Rattle.listing.proofs.render.Reads as render-reads
 
 -- how long the text is, and the lent room with the text at its front
 pub render-determined : Determined render.ended render-reads.Post

@@ -1,5 +1,3 @@
-pub mod Appends
-pub mod Decimals
 pub mod Layered
 pub mod Listed
 pub mod Determined

@@ -1,66 +1,81 @@
 -- What an accepted image's lines may ask of it, and the listing case by case. Assumes nothing.
-use Prim.Native.Nat.{ℕ, _+_, _-_, _*_, _≤_, _<_}
+use Prim.Native.Nat.{ℕ, zero, suc, _+_, _-_, _*_, _≤_, _<_}
 use native.Mathlib.Omega.{arith}
-use mathlib.Core.Path.{_≡_, subst}
+use mathlib.Core.Path.{_≡_, refl, sym, ap, subst}
 use mathlib.Core.List.{List}
 use lib.ListN.{length}
 use borrow.Author.Tests.{le-leb, lt-leb}
 use Rattle.floats.proofs.Loops.{row-room}
+use Rattle.refusals.specs.declared.Refusal.{Refusal}
 use Rattle.layers.specs.Widths.{widthAt, layerSize}
-use Rattle.config.specs.declared.Refusal.{Refusal}
-use Rattle.config.specs.declared.Sizes.{Sizes}
-use Rattle.config.proofs.Sized.{sized, layer-within}
+use Rattle.config.proofs.Sized.{layer-room}
 use Rattle.words.specs.Words.{wordsFrom}
 use Rattle.words.proofs.Tables.{words-length}
-use Rattle.image.specs.declared.description.Trailer.{Trailer}
-use Rattle.image.specs.declared.description.Description.{Description}
-use Rattle.image.specs.declared.description.Described.the-variants.{Sound, Refused}
-use Rattle.image.specs.Image.{describeOf}
-use Rattle.image.specs.Unpacking.{widthsOf}
-use Rattle.image.proofs.Accepted.{Accepted, accepted, room}
-use Rattle.listing.specs.Listing.{soundText, refusedLine, listingOf}
+use Rattle.image_reading.specs.declared.Description.{Description}
+use Rattle.image_reading.specs.declared.Described.the-variants.{Sound, Refused}
+use Rattle.image_reading.specs.Image.{trailerIn, widthsIn, totalIn, describeFault, descriptionIn, describeOf, widthsOf}
+use Rattle.image_reading.proofs.Passed.{PastLength, size, past-eleven}
+use Rattle.image_reading.proofs.Parts.{described, undescribed, described-room}
+use Rattle.listing.specs.Listing.{soundText, refusedLine, describedText, listFault, listingOf}
 use Rattle.listing.specs.Steps.{Listable}
 
 -- ---- an accepted image
-listable-of : (bs : List ℕ) (t : Trailer) (s : Sizes) (d : Description) → Accepted bs t s d
-    → Listable bs (record { grid = t .grid; widths = t .count; parameters = s .parameters })
+listable-of : (bs : List ℕ) → PastLength bs (trailerIn bs) → Listable bs (descriptionIn bs)
 unfolding widthsOf
-listable-of bs t s d a =
-    let z = sized _ _ s (a .checked) in
-    let n : length (wordsFrom bs (length bs - t .widths) (t .count)) ≡ t .count = words-length bs (length bs - t .widths) (t .count) in
-    let from : length bs - t .widths ≡ 4 * s .parameters = omega (arith, a .widths, a .whole) in
-    let ws = wordsFrom bs (4 * s .parameters) (t .count) in
-    let outer : (l : ℕ) → l + 1 < t .count → layerSize (t .grid .intervals + 5) ws l ≤ 250000 =
-    λ l h. rw (← from) (omega (arith, layer-within _ _ s z l (omega (arith, n, h)), z .small)) in
+listable-of bs a =
+    let t = trailerIn bs in
+    let P = totalIn bs t in
+    let z = size bs t a in
+    let n : length (widthsIn bs t) ≡ t .count = words-length bs (length bs - t .widths) (t .count) in
+    let from : length bs - t .widths ≡ 4 * P = omega (arith, a .widths .trailer .distance, a .whole) in
+    let ws = wordsFrom bs (4 * P) (t .count) in
+    let per = t .grid .intervals + 5 in
+    let outer : (l : ℕ) → l + 1 < t .count → layerSize per ws l ≤ 250000 =
+    λ l h. rw (← from) (omega (arith, layer-room per (widthsIn bs t) l (omega (arith, n, h)), z .small)) in
     record {
       ends = record { lo = z .loFinite; hi = z .hiFinite };
       some = omega (arith, z .some, n);
       room = omega (arith, a .whole);
       fewParameters = z .small;
       fewIntervals = z .grid;
-      inner = λ l h. row-room (widthAt ws (l + 1)) (widthAt ws l * (t .grid .intervals + 5)) 250000
+      inner = λ l h. row-room (widthAt ws (l + 1)) (widthAt ws l * per) 250000
           (rw (← from) (z .positive (l + 1) (omega (arith, n, h)))) (outer l h);
       outer = outer;
     }
 
-pub listable : (bs : List ℕ) (d : Description) → describeOf bs ≡ Sound d → Listable bs d
-listable bs d h = let a = accepted bs d h in subst (Listable bs) (a .1 .same) (listable-of bs _ (a .0) d (a .1))
+module _ (bs : List ℕ) (d : Description) (e : describeOf bs ≡ Sound d) where
+  pub listable : Listable bs d
+  listable =
+      let a = described bs d e in
+      subst (Listable bs) (a .same) (listable-of bs (past-eleven bs (a .passed) .length))
 
--- the longest listing
-pub enough : (bs : List ℕ) (d : Description) (n : ℕ) → describeOf bs ≡ Sound d → length bs ≤ 65536 → 1500000 ≤ n
-    → 71 + 90 * d .widths ≤ n
-enough bs d n h l k = omega (arith, room bs d h .1)
+  -- the longest listing
+  pub enough : (n : ℕ) → length bs ≤ 65536 → 1500000 ≤ n → 71 + 90 * d .widths ≤ n
+  enough n l k = omega (arith, described-room bs d e .whole)
 
 -- ---- the listing
+refused-text : (n : ℕ) (bs : List ℕ) → (n ≡ 0 → ⊥) → refusedLine n ≡ describedText n bs
+refused-text zero bs some = absurd (some refl)
+refused-text (suc n) bs some = refl
+
 module _ (bs : List ℕ) where
   pub list-long : 65536 < length bs → refusedLine 24 ≡ listingOf bs
-  unfolding listingOf
+  unfolding listingOf listFault
   list-long l = rw (lt-leb (length bs) 65536 l)
 
-  pub list-refused : (r : Refusal) → length bs ≤ 65536 → describeOf bs ≡ Refused r → refusedLine (r .number) ≡ listingOf bs
+  described-alone : length bs ≤ 65536 → listFault bs ≡ describeFault bs
+  unfolding listFault
+  described-alone l = rw (le-leb (length bs) 65536 l)
+
+  pub list-refused : (r : Refusal) → length bs ≤ 65536 → describeOf bs ≡ Refused r
+      → refusedLine (r .number) ≡ listingOf bs
   unfolding listingOf
-  list-refused r l e = rw (le-leb (length bs) 65536 l, e)
+  list-refused r l e =
+      let a = undescribed bs r e in
+      rw (described-alone l, a .number) (refused-text (describeFault bs) bs (a .stopped))
 
   pub list-sound : (d : Description) → length bs ≤ 65536 → describeOf bs ≡ Sound d → soundText bs d ≡ listingOf bs
   unfolding listingOf
-  list-sound d l e = rw (le-leb (length bs) 65536 l, e)
+  list-sound d l e =
+      let a = described bs d e in
+      rw (described-alone l, a .passed) (ap (soundText bs) (sym (a .same)))

@@ -1,20 +1,13 @@
--- What the steps of a listing promise: no part of its meaning. Definitions only.
+-- What the steps of a listing ask: no part of its meaning. Definitions only.
 use Prim.Native.Nat.{ℕ, _+_, _*_, _≤_, _<_}
-use mathlib.Core.Path.{_≡_}
-use mathlib.Core.List.{List, _++_}
+use mathlib.Core.List.{List}
 use lib.Dec.{T}
-use lib.ListN.{length, take, drop}
+use lib.ListN.{length}
 use lib.Ieee.Scale.{finite}
 use Rattle.spline.specs.declared.Grid.{Grid}
 use Rattle.layers.specs.Widths.{widthAt, layerSize}
-use Rattle.image.specs.declared.description.Description.{Description}
-use Rattle.image.specs.Unpacking.{widthsOf}
-
--- a text was put at a place of a slice, and the next place is behind it
-pub record Appended (out : List ℕ) (at : ℕ) (text out′ : List ℕ) (next : ℕ) : Type 0 where
-  pub place : next ≡ at + length text
-  pub room : at + length text ≤ length out
-  pub bytes : out′ ≡ take at out ++ (text ++ drop (at + length text) out)
+use Rattle.image_reading.specs.declared.Description.{Description}
+use Rattle.image_reading.specs.Image.{widthsOf}
 
 pub record FiniteEnds (g : Grid) : Type 0 where
   pub lo : T (finite (g .lo))

@@ -1,91 +1,87 @@
--- `mse_loss`: "Loss then works row by row: 20, and for each output 21 before 22"; "Squared error is one product" (document
--- 01); sum / count. Definitions only.
-use Prim.Native.Nat.{ℕ, zero, suc, _*_}
+-- `mse_loss`: "Loss then works row by row: 20, and for each output 21 before 22"; "Squared error is one product"
+-- (document 01); the mean is the sum over the number of targets. Definitions only.
+use Prim.Native.Nat.{ℕ, zero, suc, _+_, _*_}
 use mathlib.Core.Path.{_≡_}
-use mathlib.Core.Bool.{Bool, true, false, cond}
 use mathlib.Core.List.{List}
 use lib.ListN.{length}
 use lib.Ieee.{Float}
 use lib.Ieee.Scale.{finite}
-use Rattle.floats.specs.Binary32.{_⊕_, _⊖_, _⊗_, _⊘_, zero32, whole32}
-use Rattle.floats.specs.Sums.{allFinite, at}
+use Rattle.floats.specs.Binary32.{_⊖_, _⊗_, _⊘_, zero32, whole32}
+use Rattle.floats.specs.Sums.{allFinite, at, sumFrom}
+use Rattle.refusals.specs.declared.Refusal.{Refusal}
+use Rattle.refusals.specs.Refusals.{_otherwise_, _then_, firstTo, none}
 use Rattle.spline.specs.declared.Grid.{Grid}
-use Rattle.layers.specs.Basis.{Basis}
-use Rattle.layers.specs.Widths.{inputWidth, outputWidth}
-use Rattle.rows.specs.Pass.{nodesFinite}
-use Rattle.rows.specs.Batch.{rowsIn, rowAt, batchFault}
-use Rattle.config.specs.declared.Checked.{Checked}
-use Rattle.config.specs.declared.Checked.the-variants.{Sound, Refused}
-use Rattle.loss.specs.declared.Sum.{Sum}
-use Rattle.loss.specs.declared.Sum.the-variants.{Of, Stopped}
+use Rattle.layers.specs.Net.{Net}
+use Rattle.layers.specs.Widths.{inputWidth, outputWidth, parametersIn, widestIn}
+use Rattle.batches.specs.Batch.{rowAt, batchFault}
+use Rattle.passes.specs.Pass.{nodesFinite, rowsOf, outputsAt}
+use Rattle.config.specs.Config.{carriedBy}
+use Rattle.admission.specs.Admission.{upTo9, swept}
 use Rattle.loss.specs.declared.Loss.{Loss}
-use Rattle.loss.specs.declared.Loss.the-variants.{Mean, Refused as Not}
-use Rattle.admission.specs.Admission.{equipped, swept}
-use Rattle.prediction.specs.Predict.{outputsAt}
+use Rattle.loss.specs.declared.Loss.the-variants.{Mean, Refused}
 
--- ---- the paper's number and values of each case of the answer
-abbrev pub lossNumber : Loss → ℕ
-lossNumber (Mean x) = 0
-lossNumber (Not r) = r .number
-
-abbrev pub sumIf : Bool → Sum → Sum → Sum
-sumIf true a b = a
-sumIf false a b = b
-
--- one squared error more: 21 where it is not finite, 22 where the sum is not
+-- ---- the errors, row by row
+-- "Squared error is one product"
 abbrev pub squared : Float → Float → Float
-squared o t = (o ⊖ t) ⊗ (o ⊖ t)
+squared output target = (output ⊖ target) ⊗ (output ⊖ target)
 
-unfoldable pub addError : Float → Float → Float → Sum
-addError s o t = sumIf (finite (squared o t)) (sumIf (finite (s ⊕ squared o t)) (Of (s ⊕ squared o t)) (Stopped 22)) (Stopped 21)
+module _ (N : Net) (ps : List Float) (ws : List ℕ) (xs ts : List Float) where
+  -- of output i of row r
+  abbrev pub errorAt : ℕ → ℕ → Float
+  errorAt r i = squared (at (outputsAt N ps ws xs r) i) (at (rowAt ts (outputWidth ws) r) i)
 
-abbrev pub onSum : Sum → (Float → Sum) → Sum
-onSum (Stopped n) next = Stopped n
-onSum (Of s) next = next s
+  -- the sum of the first r rows' errors, from +0.0
+  unfoldable pub sumAfter : ℕ → Float
+  sumAfter zero = zero32
+  sumAfter (suc r) = sumFrom (sumAfter r) (errorAt r) (outputWidth ws)
 
--- the first n outputs of a row, from the sum s
-unfoldable pub errorsTo : Float → List Float → List Float → ℕ → Sum
-errorsTo s os ts zero = Of s
-errorsTo s os ts (suc n) = onSum (errorsTo s os ts n) (λ z. addError z (at os n) (at ts n))
+  -- "for each output 21 before 22": its error, and the sum with it
+  abbrev pub outputFault : ℕ → ℕ → ℕ
+  outputFault r i =
+      finite (errorAt r i) otherwise 21 then finite (sumFrom (sumAfter r) (errorAt r) (suc i)) otherwise 22
 
--- the first r rows, from +0.0
-unfoldable pub lossTo : Basis → List Float → List ℕ → List Float → List Float → ℕ → Sum
-lossTo B ps ws xs ts zero = Of zero32
-lossTo B ps ws xs ts (suc r) =
-    onSum (lossTo B ps ws xs ts r)
-    (λ s. sumIf (nodesFinite B ps ws (rowAt xs (inputWidth ws) r))
-    (errorsTo s (outputsAt B ps ws xs r) (rowAt ts (outputWidth ws) r) (outputWidth ws)) (Stopped 20))
+  -- "row by row: 20, and for each output .."
+  abbrev pub lossRowFault : ℕ → ℕ
+  lossRowFault r =
+      nodesFinite N ps ws (rowAt xs (inputWidth ws) r) otherwise 20 then firstTo (outputFault r) (outputWidth ws)
 
--- the mean, or the refusal
-abbrev pub refuseLoss : ℕ → Loss
-refuseLoss n = Not (record { number = n; carried = 0 })
+  -- the first refusal of the rows, and their mean
+  abbrev pub rowsLossFault : ℕ
+  rowsLossFault = firstTo lossRowFault (rowsOf ws xs)
 
-abbrev pub meanOf : Sum → ℕ → Loss
-meanOf (Of s) n = Mean (s ⊘ whole32 n)
-meanOf (Stopped k) n = refuseLoss k
+  abbrev pub meanError : Float
+  meanError = sumAfter (rowsOf ws xs) ⊘ whole32 (rowsOf ws xs * outputWidth ws)
 
--- 11, the batch, then the rows
-abbrev pub soundBatch : ℕ → Loss → Loss
-soundBatch zero l = l
-soundBatch (suc n) l = refuseLoss (suc n)
+-- ---- past check 9 and before the rows: 11, then the batch
+unfoldable pub from11To18 : List Float → List ℕ → List Float → List Float → ℕ
+from11To18 ps ws xs ts = allFinite ps otherwise 11 then batchFault (inputWidth ws) (outputWidth ws) xs ts
 
-abbrev pub lossIf : Bool → Loss → Loss → Loss
-lossIf true a b = a
-lossIf false a b = b
+-- ---- the answer, and the refusal that it is
+abbrev pub lossOf : ℕ → ℕ → Float → Loss
+lossOf zero carried mean = Mean mean
+lossOf (suc n) carried mean = Refused (record { number = suc n; carried = carried })
 
-unfoldable pub lossOf : Basis → List Float → List ℕ → List Float → List Float → Loss
-lossOf B ps ws xs ts =
-    let rows = rowsIn (length xs) (inputWidth ws) in
-    lossIf (allFinite ps)
-    (soundBatch (batchFault (inputWidth ws) (outputWidth ws) xs ts) (meanOf (lossTo B ps ws xs ts rows) (rows * outputWidth ws)))
-    (refuseLoss 11)
+abbrev pub lossRefusal : Loss → Refusal
+lossRefusal (Mean x) = none
+lossRefusal (Refused r) = r
 
-abbrev pub lossAnswer : Checked → Loss → Loss
-lossAnswer (Refused r) l = Not r
-lossAnswer (Sound s) l = l
+-- ---- the whole call
+module _ (N : Net) (ws : List ℕ) (g : Grid) (ps xs ts a b : List Float) where
+  abbrev to9 : ℕ
+  to9 = upTo9 ws g (length ps) (length a) (length b)
 
--- the whole call
-pub record Lost (B : Basis) (ws : List ℕ) (g : Grid) (ps xs ts a b : List Float) (r : Loss) (a′ b′ : List Float) : Type 0 where
-  pub answer : r ≡ lossAnswer (equipped ws g (length ps) (length a) (length b)) (lossOf B ps ws xs ts)
-  pub first : a′ ≡ swept (equipped ws g (length ps) (length a) (length b)) a
-  pub second : b′ ≡ swept (equipped ws g (length ps) (length a) (length b)) b
+  -- all checks before the rows
+  abbrev pub upTo18 : ℕ
+  upTo18 = to9 then from11To18 ps ws xs ts
+
+  -- 7 carries the total, and no refusal past the configuration carries anything
+  abbrev pub lossAnswer : Loss
+  lossAnswer =
+      lossOf (upTo18 then rowsLossFault N ps ws xs ts) (carriedBy to9 (parametersIn (g .intervals + 5) ws))
+      (meanError N ps ws xs ts)
+
+  -- the answer, and all lent memory
+  pub record Lost (r : Loss) (a′ b′ : List Float) : Type 0 where
+    pub answer : r ≡ lossAnswer
+    pub first : a′ ≡ swept to9 (widestIn ws) a
+    pub second : b′ ≡ swept to9 (widestIn ws) b

@@ -1,16 +1,15 @@
-// Public crate: the mean squared error of a batch, row by row. It answers every argument, or refuses by number; one record says
-// the answer and the final contents of everything that was lent.
+// Public crate: the mean squared error of a batch, row by row. It answers every argument, or refuses by number; one
+// record says the answer and the final contents of everything that was lent.
 ghost use mathlib.Core.Path.{_≡_};
 ghost use Prim.Native.Nat.{_≤_};
 ghost use lib.ListN.{length, take};
-ghost use Rattle.layers.specs.Basis.{basisOf, Basis};
-ghost use Rattle.layers.specs.Widths.{inputWidth, outputWidth};
-ghost use Rattle.rows.specs.Turns.{Fits, holder};
-ghost use Rattle.loss.specs.Loss.{addError, errorsTo, refuseLoss, Lost};
-ghost use Rattle.loss.specs.Steps.{Measured, RowsSummed, LossDone};
-use admission::equip;
+ghost use Rattle.layers.specs.Net.{netOf, Net};
+ghost use Rattle.passes.specs.Turns.{Fits, holder};
+ghost use Rattle.loss.specs.Loss.{squared, Lost};
+ghost use Rattle.loss.specs.Steps.{addedTo, errorsTo, Summable, RowsSummed, refusedBy, LossPast9};
+use admission::check_work;
 use config::Checked;
-use config::Refusal;
+use refusals::Refusal;
 use spline::Grid;
 
 // A running sum of squared errors, or the number that stopped it: 20, 21 or 22.
@@ -26,7 +25,7 @@ pub enum Loss {
 
 // One squared error more; it is one product.
 fn add_error(sum: f32, output: f32, target: f32) -> Sum
-    ensures { λ r. ⌜ r ≡ addError sum output target ⌝ }
+    ensures { λ r. ⌜ r ≡ addedTo sum (squared output target) ⌝ }
 {
     let difference = output - target;
     let squared = difference * difference;
@@ -70,7 +69,8 @@ fn row_errors(
     targets: &[f32],
 ) -> Sum
     requires { ⌜ (v ≤ length (now first)) × (v ≤ length (now second)) × (v ≤ length (now targets)) ⌝ }
-    ensures { λ r. ⌜ r ≡ errorsTo sum (take v (holder layers (now (first .entry)) (now (second .entry)))) (now (targets .entry)) v ⌝ }
+    ensures { λ r. ⌜ r
+        ≡ errorsTo sum (take v (holder layers (now (first .entry)) (now (second .entry)))) (now (targets .entry)) v ⌝ }
 {
     if layers % 2 == 0 {
         add_errors(sum, &second[0..v], targets)
@@ -90,9 +90,9 @@ fn sum_rows(
     first: &mut [f32],
     second: &mut [f32],
 ) -> Sum
-    requires { ⌜ Measured grid (now model) (now widths) (now inputs) (now targets) (now first) (now second) rows ⌝ }
-    ensures { λ r. ⌜ RowsSummed (basisOf grid) (now (model .entry)) (now (widths .entry)) (now (inputs .entry)) (now (targets .entry)) rows
-        (now (first .entry)) (now (second .entry)) r (now (first .exit)) (now (second .exit)) ⌝ }
+    requires { ⌜ Summable grid (now model) (now widths) (now inputs) (now targets) (now first) (now second) rows ⌝ }
+    ensures { λ r. ⌜ RowsSummed (netOf grid) (now (model .entry)) (now (widths .entry)) (now (inputs .entry))
+        (now (targets .entry)) (now (first .entry)) (now (second .entry)) r (now (first .exit)) (now (second .exit)) ⌝ }
 {
     let layers = widths.len() - 1;
     let w = widths[0];
@@ -100,19 +100,19 @@ fn sum_rows(
     let mut sum: f32 = 0.0;
     let table = exponential::scaled_powers();
     for r in 0..rows {
-        let number = rows::run_row(
+        let number = passes::run_row(
             grid,
             &table,
             widths,
             model,
-            rows::row(inputs, w, r),
+            batches::row(inputs, w, r),
             first,
             second,
         );
         if number != 0 {
             return Sum::Stopped(number);
         }
-        let step = row_errors(sum, layers, v, first, second, rows::row(targets, v, r));
+        let step = row_errors(sum, layers, v, first, second, batches::row(targets, v, r));
         match step {
             Sum::Of(next) => {
                 sum = next;
@@ -126,7 +126,7 @@ fn sum_rows(
 }
 
 fn refused(number: u32) -> Loss
-    ensures { λ r. ⌜ r ≡ refuseLoss number ⌝ }
+    ensures { λ r. ⌜ r ≡ refusedBy number ⌝ }
 {
     Loss::Refused(Refusal { number, carried: 0 })
 }
@@ -142,19 +142,19 @@ fn loss_sound(
     second: &mut [f32],
 ) -> Loss
     requires { ⌜ Fits grid (now model) (now widths) (now first) (now second) ⌝ }
-    ensures { λ r. ⌜ LossDone (basisOf grid) (now (model .entry)) (now (widths .entry)) (now (inputs .entry)) (now (targets .entry))
-        (now (first .entry)) (now (second .entry)) r (now (first .exit)) (now (second .exit)) ⌝ }
+    ensures { λ r. ⌜ LossPast9 (netOf grid) (now (model .entry)) (now (widths .entry)) (now (inputs .entry))
+        (now (targets .entry)) (now (first .entry)) (now (second .entry)) r (now (first .exit)) (now (second .exit)) ⌝ }
 {
     if !floats::all_finite(model) {
         return refused(11);
     }
     let layers = widths.len() - 1;
     let w = widths[0];
-    let fault = rows::batch_fault(inputs, targets, w, widths[layers]);
+    let fault = batches::batch_fault(inputs, targets, w, widths[layers]);
     if fault != 0 {
         return refused(fault);
     }
-    let rows = rows::rows_in(inputs.len(), w);
+    let rows = batches::rows_in(inputs.len(), w);
     let sum = sum_rows(grid, widths, model, inputs, targets, rows, first, second);
     match sum {
         Sum::Of(total) => Loss::Mean(total / (targets.len() as f32)),
@@ -172,10 +172,10 @@ pub fn mse_loss(
     first: &mut [f32],
     second: &mut [f32],
 ) -> Loss
-    ensures { λ r. ⌜ Lost (basisOf grid) (now (widths .entry)) grid (now (model .entry)) (now (inputs .entry)) (now (targets .entry))
-        (now (first .entry)) (now (second .entry)) r (now (first .exit)) (now (second .exit)) ⌝ }
+    ensures { λ r. ⌜ Lost (netOf grid) (now (widths .entry)) grid (now (model .entry)) (now (inputs .entry))
+        (now (targets .entry)) (now (first .entry)) (now (second .entry)) r (now (first .exit)) (now (second .exit)) ⌝ }
 {
-    let checked = equip(widths, grid, model.len(), first.len(), second.len());
+    let checked = check_work(widths, grid, model.len(), first.len(), second.len());
     match checked {
         Checked::Refused(refusal) => Loss::Refused(refusal),
         Checked::Sound(sizes) => {

@@ -10,7 +10,7 @@ use lib.ListN.{length, take, drop}
 use lib.Ieee.{Float}
 use borrow.Author.Tests.{eq-eqb, ne-eqb, eqb-true, eqb-false}
 use Rattle.floats.proofs.Loops.{front, front-length}
-use Rattle.rows.specs.Batch.{rowsIn}
+use Rattle.batches.specs.Batch.{rowsIn}
 use Rattle.prediction.specs.Predict.{outputsFit}
 
 -- ---- m is n times v

@@ -1,26 +1,27 @@
-// Public crate: prediction of a batch, row by row. It answers every argument, or refuses by number; one record says the answer
-// and the final contents of everything that was lent.
+// Public crate: prediction of a batch, row by row. It answers every argument, or refuses by number; one record says the
+// answer and the final contents of everything that was lent.
 ghost use mathlib.Core.Path.{_≡_};
-ghost use Prim.Native.Nat.{_*_, _≤_, _<_};
+ghost use Prim.Native.Nat.{_+_, _*_, _≤_, _<_};
 ghost use mathlib.Core.List.{_++_};
 ghost use lib.ListN.{length, take, drop};
-ghost use Rattle.layers.specs.Basis.{basisOf, Basis};
-ghost use Rattle.rows.specs.Turns.{Fits, holder};
-ghost use Rattle.prediction.specs.Predict.{Predicted, outputsFit};
-ghost use Rattle.prediction.specs.Steps.{Batched, RowsDone, BatchDone};
-use admission::equip;
+ghost use Rattle.layers.specs.Net.{netOf, Net};
+ghost use Rattle.layers.specs.Widths.{parametersIn};
+ghost use Rattle.passes.specs.Turns.{Fits, holder};
+ghost use Rattle.prediction.specs.Predict.{Predicted, outputsFit, from10To11};
+ghost use Rattle.prediction.specs.Steps.{Predictable, RowsPredicted};
+use admission::check_work;
 use config::Checked;
-use config::Outcome;
-use config::Refusal;
+use refusals::Outcome;
+use refusals::Refusal;
 use spline::Grid;
 
-// 10: the outputs are as many as rows times the output width. Divided and not multiplied, since the product may pass 2^64.
+// 10: the outputs are as many as rows times the output width. Divided, not multiplied: the product may pass 2^64.
 fn outputs_fit(inputs: usize, w: usize, outputs: usize, v: usize) -> bool
     requires { ⌜ (0 < w) × (0 < v) ⌝ }
     ensures { λ r. ⌜ r ≡ outputsFit w v inputs outputs ⌝ }
 {
     if outputs % v == 0 {
-        return outputs / v == rows::rows_in(inputs, w);
+        return outputs / v == batches::rows_in(inputs, w);
     }
     false
 }
@@ -38,7 +39,7 @@ fn copy_outputs(layers: usize, v: usize, first: &[f32], second: &[f32], outputs:
     }
 }
 
-// Rows in order, up to the first that is refused.
+// Rows in order, up to the first that is refused. No check is left before them: hence 0 and 0 in the promise.
 fn predict_rows(
     grid: Grid,
     widths: &[usize],
@@ -49,8 +50,8 @@ fn predict_rows(
     second: &mut [f32],
     outputs: &mut [f32],
 ) -> Outcome
-    requires { ⌜ Batched grid (now model) (now widths) (now inputs) (now first) (now second) (now outputs) rows ⌝ }
-    ensures { λ r. ⌜ RowsDone (basisOf grid) (now (model .entry)) (now (widths .entry)) (now (inputs .entry)) rows
+    requires { ⌜ Predictable grid (now model) (now widths) (now inputs) (now first) (now second) (now outputs) rows ⌝ }
+    ensures { λ r. ⌜ RowsPredicted (netOf grid) (now (model .entry)) (now (widths .entry)) (now (inputs .entry)) 0 0
         (now (first .entry)) (now (second .entry)) (now (outputs .entry)) r (now (first .exit)) (now (second .exit))
         (now (outputs .exit)) ⌝ }
 {
@@ -59,12 +60,12 @@ fn predict_rows(
     let v = widths[layers];
     let table = exponential::scaled_powers();
     for r in 0..rows {
-        let number = rows::run_row(
+        let number = passes::run_row(
             grid,
             &table,
             widths,
             model,
-            rows::row(inputs, w, r),
+            batches::row(inputs, w, r),
             first,
             second,
         );
@@ -88,7 +89,9 @@ fn predict_sound(
     outputs: &mut [f32],
 ) -> Outcome
     requires { ⌜ Fits grid (now model) (now widths) (now first) (now second) ⌝ }
-    ensures { λ r. ⌜ BatchDone (basisOf grid) (now (model .entry)) (now (widths .entry)) (now (inputs .entry))
+    ensures { λ r. ⌜ RowsPredicted (netOf grid) (now (model .entry)) (now (widths .entry)) (now (inputs .entry))
+        (from10To11 (now (widths .entry)) (now (model .entry)) (now (inputs .entry)) (length (now (outputs .entry))))
+        (parametersIn (grid .intervals + 5) (now (widths .entry)))
         (now (first .entry)) (now (second .entry)) (now (outputs .entry)) r (now (first .exit)) (now (second .exit))
         (now (outputs .exit)) ⌝ }
 {
@@ -106,7 +109,7 @@ fn predict_sound(
             carried: 0,
         });
     }
-    let rows = rows::rows_in(inputs.len(), w);
+    let rows = batches::rows_in(inputs.len(), w);
     predict_rows(grid, widths, model, inputs, rows, first, second, outputs)
 }
 
@@ -120,11 +123,11 @@ pub fn predict_batch(
     second: &mut [f32],
     outputs: &mut [f32],
 ) -> Outcome
-    ensures { λ r. ⌜ Predicted (basisOf grid) (now (widths .entry)) grid (now (model .entry)) (now (inputs .entry))
+    ensures { λ r. ⌜ Predicted (netOf grid) (now (widths .entry)) grid (now (model .entry)) (now (inputs .entry))
         (now (first .entry)) (now (second .entry)) (now (outputs .entry)) r (now (first .exit)) (now (second .exit))
         (now (outputs .exit)) ⌝ }
 {
-    let checked = equip(widths, grid, model.len(), first.len(), second.len());
+    let checked = check_work(widths, grid, model.len(), first.len(), second.len());
     match checked {
         Checked::Refused(refusal) => Outcome::Refused(refusal),
         Checked::Sound(sizes) => {

@@ -47,7 +47,8 @@ parts-cut (b ∷ bs) = parts-by (eqb b 32) b bs (parts-cut bs)
 
 space-by : (t : Bool) (b : ℕ) (bs : List ℕ) → eqb b 32 ≡ t
     → wordsOf (later (drop (beforeOf 32 bs) bs)) ≡ afterTag (drop (beforeOf 32 bs) bs)
-    → wordsOf (later (drop (cond t 0 (suc (beforeOf 32 bs))) (b ∷ bs))) ≡ afterTag (drop (cond t 0 (suc (beforeOf 32 bs))) (b ∷ bs))
+    → let n = cond t 0 (suc (beforeOf 32 bs)) in
+    wordsOf (later (drop n (b ∷ bs))) ≡ afterTag (drop n (b ∷ bs))
 unfolding later afterTag
 space-by true b bs e h = rw e
 space-by false b bs e h = h
@@ -59,6 +60,7 @@ space [] = refl
 space (b ∷ bs) = space-by (eqb b 32) b bs refl (space bs)
 
 -- a word, and what follows it
-pub words-cut : (l : List ℕ) → wordsOf (partsOf l) ≡ inFront (wordOf (take (beforeOf 32 l) l)) (afterTag (drop (beforeOf 32 l) l))
+pub words-cut : (l : List ℕ)
+    → wordsOf (partsOf l) ≡ inFront (wordOf (take (beforeOf 32 l) l)) (afterTag (drop (beforeOf 32 l) l))
 unfolding wordsOf
 words-cut l = ap wordsOf (parts-cut l) ∙ ap (inFront (wordOf (take (beforeOf 32 l) l))) (space l)

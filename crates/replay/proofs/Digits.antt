@@ -21,8 +21,11 @@ pick-most false x y h k = k
 pub digit-most : (b : ℕ) → digitOf b ≤ 16
 unfolding digitOf
 digit-most b =
+    let letters =
+    pick-most (leb 97 b && leb b 102) (b - 87) 16 (λ t. omega (arith, leb→le b 102 (and-r (leb 97 b) (leb b 102) t)))
+    (lit≤ tt) in
     pick-most (leb 48 b && leb b 57) (b - 48) _ (λ t. omega (arith, leb→le b 57 (and-r (leb 48 b) (leb b 57) t)))
-    (pick-most (leb 97 b && leb b 102) (b - 87) 16 (λ t. omega (arith, leb→le b 102 (and-r (leb 97 b) (leb b 102) t))) (lit≤ tt))
+    letters
 
 -- i digits are read, and stand for `number`
 pub record Read (text : List ℕ) (number i : ℕ) : Type 0 where

@@ -13,7 +13,8 @@ use Rattle.replay.specs.declared.Line.{Line}
 use Rattle.replay.specs.declared.Line.the-variants.{Words, Skipped, Malformed}
 use Rattle.replay.specs.declared.Word.{Word}
 use Rattle.replay.specs.declared.Word.the-variants.{Number, Other}
-use Rattle.replay.specs.Lines.{beforeOf, letterOf, wordOf, inFront, afterTag, counted, lineOf, countOf, Answered, Tagged}
+use Rattle.replay.specs.Lines.{beforeOf, letterOf, wordOf, inFront, afterTag, counted, lineOf, countOf}
+use Rattle.replay.specs.Lines.{Answered, Tagged}
 use Rattle.replay.proofs.Cuts.{words-cut}
 
 -- ---- the words so far, in front of those to come
@@ -75,48 +76,65 @@ pub record Taken (rest lent words : List ℕ) (at count : ℕ) : Type 0 where
 pub taken-none : (rest lent : List ℕ) → Taken rest lent lent 0 0
 taken-none rest lent = record { same = refl; most = omega arith; room = omega arith; reading = front-none _ }
 
-module _ {rest lent words : List ℕ} {at count : ℕ} (t : Taken rest lent words at count) (h : at < length rest) where
-  pub taken-no-space : (getD rest at 0 ≡ 32 → ⊥) → afterTag rest ≡ none
-  unfolding afterTag front
-  taken-no-space e = t .reading ∙ rw (drop-cons rest at 0 h, ne-eqb (getD rest at 0) 32 e)
+pub taken-no-space : {rest lent words : List ℕ} {at count : ℕ} → Taken rest lent words at count → at < length rest
+    → (getD rest at 0 ≡ 32 → ⊥) → afterTag rest ≡ none
+unfolding afterTag front
+taken-no-space {rest} {lent} {words} {at} t h e =
+    t .reading ∙ rw (drop-cons rest at 0 h, ne-eqb (getD rest at 0) 32 e)
 
-  module _ (e : getD rest at 0 ≡ 32) where
-    -- the word behind the space, and what follows it
-    next : (n : ℕ) → n ≡ beforeOf 32 (drop (at + 1) rest)
-        → afterTag (drop at rest) ≡ inFront (wordOf (take n (drop (at + 1) rest))) (afterTag (drop (at + 1 + n) rest))
-    unfolding afterTag
-    next n b =
-        rw (
-          drop-cons rest at 0 h,
-          eq-eqb (getD rest at 0) 32 e,
-          ← add-one at,
-          words-cut (drop (at + 1) rest),
-          ← b,
-          drop-drop n (at + 1) rest,
-        )
+-- a turn that begins at a space
+pub record Spaced (rest lent words : List ℕ) (at count : ℕ) : Type 0 where
+  pub taken : Taken rest lent words at count
+  pub more : at < length rest
+  pub space : getD rest at 0 ≡ 32
 
-    pub taken-full : (tag : ℕ) → count ≡ length words → counted (length lent) tag (afterTag rest) ≡ Malformed
-    taken-full tag k =
-        let l : length (take count words) ≡ count = length-take-le count words (t .room) in
-        rw (t .reading ∙ ap (front (take count words)) (next _ refl))
-        (full (length lent) tag (take count words) _ _ (omega (arith, l, t .same)))
+-- what is behind the space: n bytes up to the next one, as a word
+pub record Behind (rest : List ℕ) (at n : ℕ) (word : Word) : Type 0 where
+  pub within : at + 1 + n ≤ length rest
+  pub mark : n ≡ beforeOf 32 (drop (at + 1) rest)
+  pub reading : word ≡ wordOf (take n (drop (at + 1) rest))
 
-    module _ (n : ℕ) (b : n ≡ beforeOf 32 (drop (at + 1) rest)) where
-      pub taken-other : wordOf (take n (drop (at + 1) rest)) ≡ Other → afterTag rest ≡ none
-      unfolding inFront front
-      taken-other w = t .reading ∙ ap (front (take count words)) (rw w at (next n b))
+module _ {rest lent words : List ℕ} {at count : ℕ} (s : Spaced rest lent words at count) where
+  -- the word behind the space, and what follows it
+  next : (n : ℕ) → n ≡ beforeOf 32 (drop (at + 1) rest)
+      → afterTag (drop at rest) ≡ inFront (wordOf (take n (drop (at + 1) rest))) (afterTag (drop (at + 1 + n) rest))
+  unfolding afterTag
+  next n b =
+      rw (
+        drop-cons rest at 0 (s .more),
+        eq-eqb (getD rest at 0) 32 (s .space),
+        ← add-one at,
+        words-cut (drop (at + 1) rest),
+        ← b,
+        drop-drop n (at + 1) rest,
+      )
 
-      pub taken-more : (v : ℕ) → wordOf (take n (drop (at + 1) rest)) ≡ Number v → at + 1 + n ≤ length rest → count < length words
-          → Taken rest lent (set words count v) (at + 1 + n) (count + 1)
-      taken-more v w m k =
-          record {
-            same = simp length-set (t .same);
-            most = m;
-            room = simp length-set (omega arith);
-            reading =
-                t .reading ∙ ap (front (take count words)) (rw w at (next n b)) ∙ front-number (take count words) v _
-                ∙ rw (add-one count, take-suc-set words count v k);
-          }
+  pub taken-full : (tag : ℕ) → count ≡ length words → counted (length lent) tag (afterTag rest) ≡ Malformed
+  taken-full tag k =
+      let t = s .taken in
+      let l : length (take count words) ≡ count = length-take-le count words (t .room) in
+      rw (t .reading ∙ ap (front (take count words)) (next _ refl))
+      (full (length lent) tag (take count words) _ _ (omega (arith, l, t .same)))
+
+  module _ {n : ℕ} {word : Word} (b : Behind rest at n word) where
+    read-on : afterTag rest ≡ front (take count words) (inFront word (afterTag (drop (at + 1 + n) rest)))
+    read-on = s .taken .reading ∙ ap (front (take count words)) (rw (← b .reading) at (next n (b .mark)))
+
+    pub taken-other : word ≡ Other → afterTag rest ≡ none
+    unfolding inFront front
+    taken-other w = rw w at read-on
+
+    pub taken-more : (v : ℕ) → word ≡ Number v → count < length words
+        → Taken rest lent (set words count v) (at + 1 + n) (count + 1)
+    taken-more v w k =
+        record {
+          same = simp length-set (s .taken .same);
+          most = b .within;
+          room = simp length-set (omega arith);
+          reading =
+              (rw w at read-on) ∙ front-number (take count words) v _
+              ∙ rw (add-one count, take-suc-set words count v k);
+        }
 
 pub taken-all : {rest lent words : List ℕ} {at count : ℕ} → Taken rest lent words at count → length rest ≤ at
     → afterTag rest ≡ some (take count words)
@@ -124,10 +142,12 @@ unfolding front afterTag
 taken-all {rest} t h = t .reading ∙ rw (drop-of-length-le rest h, append-nil)
 
 -- ---- the answers
-pub skipped : {expected : Line} (rest lent after : List ℕ) → Skipped ≡ expected → Answered expected rest lent after Skipped
+pub skipped : {expected : Line} (rest lent after : List ℕ) → Skipped ≡ expected
+    → Answered expected rest lent after Skipped
 skipped rest lent after e = record { within = omega arith; answer = e; words = λ tag n q. cc }
 
-pub malformed : {expected : Line} (rest lent after : List ℕ) → Malformed ≡ expected → Answered expected rest lent after Malformed
+pub malformed : {expected : Line} (rest lent after : List ℕ) → Malformed ≡ expected
+    → Answered expected rest lent after Malformed
 malformed rest lent after e = record { within = omega arith; answer = e; words = λ tag n q. cc }
 
 pub words-read : (tag count : ℕ) (rest lent after : List ℕ) → count ≤ length after → length after ≡ length lent

@@ -1,5 +1,5 @@
--- The lines of a list of cases: a tag and hexadecimal words, one space between. A line ends at an LF (10), a comment begins
--- with # (35), and a space is 32. Definitions only.
+-- The lines of a list of cases: a tag and hexadecimal words, one space between. A line ends at an LF (10), a comment
+-- begins with # (35), and a space is 32. Definitions only.
 use mathlib.Core.Path.{_≡_}
 use mathlib.Core.Bool.{Bool, true, false, cond, _&&_, _||_}
 use mathlib.Core.List.{List, [], _∷_}

@@ -1,5 +1,6 @@
-// Inner crate: lists of cases as text, read from a slice. A line that begins with `#` is a comment, a blank line is skipped,
-// and every other line is a one-letter tag and words of 1 to 16 lower-case hexadecimal digits, one space between.
+// Inner crate: lists of cases as text, read from a slice. A line that begins with `#` is a comment, a blank line is
+// skipped, and every other line is a one-letter tag and words of 1 to 16 lower-case hexadecimal digits, one space
+// between.
 ghost use mathlib.Core.Path.{_≡_};
 ghost use Prim.Native.Nat.{_≤_};
 ghost use lib.ListN.{length};

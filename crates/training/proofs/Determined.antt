@@ -9,14 +9,14 @@ use Rattle.training.proofs.calls.train_step.Reads as step-reads
 
 pub train-determined : Determined train.ended train-reads.Post
 train-determined κs a r r′ w w′ p q =
-    let model = p .model ∙ sym (q .model) in
-    let gradients = p .gradients ∙ sym (q .gradients) in
-    let work = p .work ∙ sym (q .work) in
+    let model = p .leaves .model ∙ sym (q .leaves .model) in
+    let gradients = p .leaves .gradients ∙ sym (q .leaves .gradients) in
+    let work = p .leaves .work ∙ sym (q .leaves .work) in
     (p .answer ∙ sym (q .answer), (λ i. (tt, (tt, (model i, (tt, (tt, (tt, (tt, (gradients i, (work i, tt)))))))))))
 
 pub step-determined : Determined step.ended step-reads.Post
 step-determined κs a r r′ w w′ p q =
-    let model = p .model ∙ sym (q .model) in
-    let gradients = p .gradients ∙ sym (q .gradients) in
-    let work = p .work ∙ sym (q .work) in
+    let model = p .leaves .model ∙ sym (q .leaves .model) in
+    let gradients = p .leaves .gradients ∙ sym (q .leaves .gradients) in
+    let work = p .leaves .work ∙ sym (q .leaves .work) in
     (p .answer ∙ sym (q .answer), (λ i. (tt, (tt, (model i, (tt, (tt, (tt, (gradients i, (work i, tt))))))))))

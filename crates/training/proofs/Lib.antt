@@ -1,4 +1,3 @@
-pub mod Stepping
 pub mod Steps
 pub mod Training
 pub mod Determined

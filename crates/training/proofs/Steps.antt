@@ -1,29 +1,29 @@
 -- Steps one after the other: where training stands before step k, a step more, a stop, and the end. Assumes nothing.
 use mathlib.Core.Path.{_≡_, refl, sym, ap, _∙_}
-use mathlib.Core.Bool.{Bool, true, false, cond}
+use mathlib.Core.Bool.{true}
 use mathlib.Core.List.{List, [], append-nil}
 use Prim.Native.Nat.{ℕ, zero, suc, _+_, _*_, _≤_, _<_}
 use native.Mathlib.Numerals.{add-one}
 use native.Mathlib.Omega.{arith}
-use lib.Dec.{eqb}
 use lib.ListN.{length, drop}
 use lib.Ieee.{Float, nan}
 use lib.Ieee.Scale.{finite}
-use borrow.Author.Tests.{eq-eqb, ne-eqb}
 use Rattle.floats.specs.Sums.{tabulate, at}
 use Rattle.floats.proofs.Loops.{tab-length, tab-get, all-each}
 use Rattle.spline.specs.declared.Grid.{Grid}
-use Rattle.support.specs.Support.{Finite}
-use Rattle.layers.specs.Basis.{Basis}
-use Rattle.rows.specs.Batch.{firstFault, doneTo}
-use Rattle.rows.proofs.Batches.{first-none, first-more, first-stop, done-all, done-stop}
-use Rattle.descent.specs.Calls.{rowsOf}
-use Rattle.descent.specs.Accumulate.{allPass, movedAt, movedFinite, movesFinite, movedOf}
+use Rattle.local_basis.specs.Fours.{Finite}
+use Rattle.layers.specs.Net.{Net}
+use Rattle.refusals.specs.Refusals.{_otherwise_, _then_, firstTo, doneTo, past}
+use Rattle.refusals.proofs.Firsts.{both-pass, test-passes, first-none, first-more, first-stop, done-all, done-stop}
+use Rattle.passes.specs.Pass.{rowsOf}
+use Rattle.batch_gradients.specs.Accumulate.{allPass}
+use Rattle.update.specs.Update.{movedAt, movedFinite, movesFinite, movedOf}
+use Rattle.training_step.specs.Step.{gradientOf, stepFault, stepped}
+use Rattle.training_step.specs.Stages.{StepReady, Rests, StepDone}
 use Rattle.training.specs.declared.calls.Training.{Training}
 use Rattle.training.specs.declared.calls.Training.the-variants.{All, Stopped}
-use Rattle.training.specs.Step.{gradientOf, stepFault, stepped}
 use Rattle.training.specs.Train.{modelAfter, faultAt, trainingOf}
-use Rattle.training.specs.Stages.{Roomy, Ready, Rests, StepDone, StepsDone}
+use Rattle.training.specs.Stages.{StepsDone}
 
 -- ---- what stays beyond what is needed
 pub rests-none : (ws : List ℕ) (ps gs W : List Float) → Rests ws ps gs W gs W
@@ -38,6 +38,11 @@ rests-more ws ps ps₁ gs W gs₁ W₁ gs₂ W₂ e p q = record {
   work = q .work ∙ p .work;
 }
 
+-- ---- a refusal at step k, which carries nothing
+pub stopped : (r k : ℕ) → (r ≡ 0 → ⊥) → Stopped (record { number = r; carried = 0; done = k }) ≡ trainingOf r 0 k
+stopped zero k z = absurd (z refl)
+stopped (suc r) k z = refl
+
 -- ---- past 23 every parameter is finite again, as 11 found it
 moved-finite : (ps gs : List Float) (rate : Float) → movesFinite ps gs rate ≡ true
     → Finite (length (movedOf ps gs rate)) (movedOf ps gs rate)
@@ -48,32 +53,24 @@ moved-finite ps gs rate e k h =
     ap finite (ap (λ (z : List Float). at z k) (sym (append-nil (tabulate f (length ps)))) ∙ tab-get f (length ps) k l [] nan)
     ∙ all-each (movedFinite ps gs rate) (length ps) e k l
 
-step-finite : (B : Basis) (ws : List ℕ) (ps xs ts : List Float) (rate : Float) (gs W ps' gs' W' : List Float) (r : ℕ)
-    → StepDone B ws ps xs ts rate gs W r ps' gs' W' → r ≡ 0 → Finite (length ps') ps'
+step-finite : (N : Net) (ws : List ℕ) (ps xs ts : List Float) (rate : Float) (gs W ps' gs' W' : List Float) (r : ℕ)
+    → StepDone N ws ps xs ts rate gs W r ps' gs' W' → r ≡ 0 → Finite (length ps') ps'
 unfolding stepFault stepped
-step-finite B ws ps xs ts rate gs W ps' gs' W' r d z =
-    let moved : ps' ≡ movedOf ps (gradientOf B ps ws xs ts) rate = rw z at (d .model) in
-    let passed = allPass B ps ws xs (rowsOf ws xs) in
-    let fine = movesFinite ps (gradientOf B ps ws xs ts) rate in
-    rw moved (moved-finite ps (gradientOf B ps ws xs ts) rate (accepted passed fine (sym (d .refusal) ∙ z)))
-  where
-    accepted : (a b : Bool) → _≡_ {A = ℕ} (cond a (cond b 0 23) 20) 0 → b ≡ true
-    accepted true true e = refl
-    accepted true false e = absurd (omega (arith, e))
-    accepted false b e = absurd (omega (arith, e))
+step-finite N ws ps xs ts rate gs W ps' gs' W' r d z =
+    let moved : ps' ≡ movedOf ps (gradientOf N ps ws xs ts) rate = rw z at (d .model) in
+    let both = both-pass (allPass N ps ws xs (rowsOf ws xs) otherwise 20) _ (sym (d .refusal) ∙ z) in
+    rw moved (moved-finite ps (gradientOf N ps ws xs ts) rate (test-passes _ 22 (both .1)))
 
 -- ---- slices of the same lengths are ready as well, with a finite model
-pub ready-moved : (g : Grid) (ws : List ℕ) (ps xs ts gs W ps' gs' W' : List Float) → Ready g ws ps xs ts gs W → length ps' ≡ length ps
+pub ready-moved : (g : Grid) (ws : List ℕ) (ps xs ts gs W ps' gs' W' : List Float) → StepReady g ws ps xs ts gs W → length ps' ≡ length ps
     → length gs' ≡ length gs → length W' ≡ length W → Finite (length ps') ps'
-    → Ready g ws ps' xs ts gs' W'
+    → StepReady g ws ps' xs ts gs' W'
 ready-moved g ws ps xs ts gs W ps' gs' W' r p q s h =
     let f = r .room .fits in
     record {
       room = record {
         fits = record {
-          grid = f .grid;
-          some = f .some;
-          positive = f .positive;
+          walkable = f .walkable;
           params = f .params ∙ sym p;
           work = omega (arith, f .work, s);
         };
@@ -84,10 +81,10 @@ ready-moved g ws ps xs ts gs W ps' gs' W' r p q s h =
     }
 
 -- ---- before step k
-module _ (B : Basis) (ws : List ℕ) (ps₀ xs ts : List Float) (rate : Float) (gs₀ W₀ : List Float) where
+module _ (N : Net) (ws : List ℕ) (ps₀ xs ts : List Float) (rate : Float) (gs₀ W₀ : List Float) where
   pub record Going (k : ℕ) (ps gs W : List Float) : Type 0 where
-    pub sound : firstFault (faultAt B ps₀ ws xs ts rate) k ≡ 0
-    pub model : ps ≡ modelAfter B ps₀ ws xs ts rate k
+    pub sound : firstTo (faultAt N ps₀ ws xs ts rate) k ≡ 0
+    pub model : ps ≡ modelAfter N ps₀ ws xs ts rate k
     pub finite : Finite (length ps) ps
     pub sizeP : length ps ≡ length ps₀
     pub sizeG : length gs ≡ length gs₀
@@ -107,19 +104,19 @@ module _ (B : Basis) (ws : List ℕ) (ps₀ xs ts : List Float) (rate : Float) (
   }
 
   -- step k's refusal, on the model that is there
-  fault-here : (k r : ℕ) (ps gs W ps' gs' W' : List Float) → Going k ps gs W → StepDone B ws ps xs ts rate gs W r ps' gs' W'
-      → r ≡ faultAt B ps₀ ws xs ts rate k
+  fault-here : (k r : ℕ) (ps gs W ps' gs' W' : List Float) → Going k ps gs W → StepDone N ws ps xs ts rate gs W r ps' gs' W'
+      → r ≡ faultAt N ps₀ ws xs ts rate k
   fault-here k r ps gs W ps' gs' W' h s = rw (← h .model) (s .refusal)
 
   pub one-more : (k r : ℕ) (ps gs W ps' gs' W' : List Float) → length ps' ≡ length ps → length gs' ≡ length gs → length W' ≡ length W
       → Going k ps gs W
-      → StepDone B ws ps xs ts rate gs W r ps' gs' W' → r ≡ 0
+      → StepDone N ws ps xs ts rate gs W r ps' gs' W' → r ≡ 0
       → Going (k + 1) ps' gs' W'
   unfolding modelAfter
   one-more k r ps gs W ps' gs' W' p q s h d z = record {
     sound = first-more _ k (h .sound) (sym (fault-here k r ps gs W ps' gs' W' h d) ∙ z);
     model = rw (add-one k, ← h .model) (rw z at (d .model));
-    finite = step-finite B ws ps xs ts rate gs W ps' gs' W' r d z;
+    finite = step-finite N ws ps xs ts rate gs W ps' gs' W' r d z;
     sizeP = p ∙ h .sizeP;
     sizeG = q ∙ h .sizeG;
     sizeW = s ∙ h .sizeW;
@@ -128,26 +125,26 @@ module _ (B : Basis) (ws : List ℕ) (ps₀ xs ts : List Float) (rate : Float) (
 
   -- step k is refused: the model is as the k steps before it left it
   pub steps-stopped : (steps k r : ℕ) (ps gs W ps' gs' W' : List Float) → k < steps → Going k ps gs W
-      → StepDone B ws ps xs ts rate gs W r ps' gs' W' → (r ≡ 0 → ⊥)
-      → StepsDone B ws ps₀ xs ts steps rate gs₀ W₀ (Stopped (record { number = r; carried = 0; done = k })) ps' gs' W'
+      → StepDone N ws ps xs ts rate gs W r ps' gs' W' → (r ≡ 0 → ⊥)
+      → StepsDone N ws ps₀ xs ts steps rate gs₀ W₀ (Stopped (record { number = r; carried = 0; done = k })) ps' gs' W'
   steps-stopped steps k r ps gs W ps' gs' W' l h d z =
       let e = fault-here k r ps gs W ps' gs' W' h d in
-      let wrong : faultAt B ps₀ ws xs ts rate k ≡ 0 → ⊥ = λ f. z (e ∙ f) in
-      let first = first-stop (faultAt B ps₀ ws xs ts rate) k steps l (h .sound) wrong in
-      let done = done-stop (faultAt B ps₀ ws xs ts rate) k steps l (h .sound) wrong in
+      let wrong : faultAt N ps₀ ws xs ts rate k ≡ 0 → ⊥ = λ f. z (e ∙ f) in
+      let first = first-stop (faultAt N ps₀ ws xs ts rate) k steps l (h .sound) wrong in
+      let done = done-stop (faultAt N ps₀ ws xs ts rate) k steps l (h .sound) wrong in
       record {
         answer = rw (first, done, ← e) (stopped r k z);
-        model = rw (done, ← h .model) (rw (ne-eqb r 0 z) at (d .model));
+        model = rw (done, ← h .model) (d .model ∙ unmoved r z);
         rests = rests-more ws ps₀ ps gs₀ W₀ gs W gs' W' (h .sizeP) (h .rests) (d .rests);
       }
     where
-      stopped : (r k : ℕ) → (r ≡ 0 → ⊥) → Stopped (record { number = r; carried = 0; done = k }) ≡ trainingOf r k
-      stopped zero k z = absurd (z refl)
-      stopped (suc r) k z = refl
+      unmoved : (r : ℕ) → (r ≡ 0 → ⊥) → past r (stepped N ps ws xs ts rate) ps ≡ ps
+      unmoved zero z = absurd (z refl)
+      unmoved (suc r) z = refl
 
   pub steps-all : (steps k : ℕ) (ps gs W : List Float) → k ≡ steps → Going k ps gs W
-      → StepsDone B ws ps₀ xs ts steps rate gs₀ W₀ (All steps) ps gs W
+      → StepsDone N ws ps₀ xs ts steps rate gs₀ W₀ (All steps) ps gs W
   steps-all steps k ps gs W e h =
-      let none : firstFault (faultAt B ps₀ ws xs ts rate) steps ≡ 0 = rw e at (h .sound) in
-      let done = done-all (faultAt B ps₀ ws xs ts rate) steps none in
+      let none : firstTo (faultAt N ps₀ ws xs ts rate) steps ≡ 0 = rw e at (h .sound) in
+      let done = done-all (faultAt N ps₀ ws xs ts rate) steps none in
       record { answer = rw (none, done); model = rw (done, ← e) (h .model); rests = h .rests }

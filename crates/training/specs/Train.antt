@@ -1,99 +1,87 @@
 -- `train_step` and `train` (document 01): "`train` refused at a later step keeps the earlier steps and says how many were
 -- done; 0 steps still checks the batch and rate .. that count is the number of steps the definition applies before its first
 -- refusal, or all asked for, and the final model is the definition's after that many". Definitions only.
-use Prim.Native.Nat.{ℕ, zero, suc}
+use Prim.Native.Nat.{ℕ, zero, suc, _+_, _*_}
 use mathlib.Core.Path.{_≡_}
-use mathlib.Core.Bool.{cond}
+use mathlib.Core.Bool.{Bool, not, _&&_}
 use mathlib.Core.List.{List}
 use lib.ListN.{length}
-use lib.Ieee.{Float}
+use lib.Ieee.{Float, le}
+use lib.Ieee.Scale.{finite}
+use Rattle.floats.specs.Binary32.{zero32}
 use Rattle.floats.specs.Sums.{allFinite}
+use Rattle.refusals.specs.declared.Refusal.{Refusal}
+use Rattle.refusals.specs.declared.Outcome.{Outcome}
+use Rattle.refusals.specs.Refusals.{_otherwise_, _then_, firstTo, doneTo, past, none, outcomeOf}
 use Rattle.spline.specs.declared.Grid.{Grid}
-use Rattle.layers.specs.Basis.{Basis}
-use Rattle.rows.specs.Batch.{orElse, firstFault, doneTo}
-use Rattle.config.specs.declared.Checked.{Checked}
-use Rattle.config.specs.declared.Checked.the-variants.{Sound, Refused}
-use Rattle.config.specs.declared.Outcome.{Outcome}
-use Rattle.config.specs.declared.Outcome.the-variants.{Done, Refused as Not}
-use Rattle.admission.specs.Admission.{furnished, parametersOf, twiceNodes, sweptOf, answered, written, refusedWith}
+use Rattle.layers.specs.Net.{Net}
+use Rattle.layers.specs.Widths.{inputWidth, outputWidth, parametersIn, nodesIn}
+use Rattle.batches.specs.Batch.{batchFault}
+use Rattle.config.specs.Config.{carriedBy}
+use Rattle.admission.specs.Admission.{upTo9InTraining, swept}
 use Rattle.training.specs.declared.calls.Training.{Training}
 use Rattle.training.specs.declared.calls.Training.the-variants.{All, Stopped}
-use Rattle.training.specs.Step.{trainingFault, stepFault, stepped}
+use Rattle.training_step.specs.Step.{stepFault, stepped}
 
--- ---- the paper's number and values of each case of `train`'s answer
-abbrev pub trainingNumber : Training → ℕ
-trainingNumber (All steps) = 0
-trainingNumber (Stopped s) = s .number
+-- ---- past check 9: 11, the batch, and 19: "learning rate not finite or not above 0"
+unfoldable pub rateSound : Float → Bool
+rateSound rate = finite rate && not (le rate zero32)
 
-abbrev pub trainingCarried : Training → ℕ
-trainingCarried (All steps) = 0
-trainingCarried (Stopped s) = s .carried
+unfoldable pub from11To19 : List Float → List ℕ → List Float → List Float → Float → ℕ
+from11To19 ps ws xs ts rate =
+    allFinite ps otherwise 11 then batchFault (inputWidth ws) (outputWidth ws) xs ts then rateSound rate otherwise 19
+
+-- ---- steps, one after the other: the model after n of them, and what step s meets on the model after those before it
+unfoldable pub modelAfter : Net → List Float → List ℕ → List Float → List Float → Float → ℕ → List Float
+modelAfter N ps ws xs ts rate zero = ps
+modelAfter N ps ws xs ts rate (suc n) = stepped N (modelAfter N ps ws xs ts rate n) ws xs ts rate
+
+abbrev pub faultAt : Net → List Float → List ℕ → List Float → List Float → Float → ℕ → ℕ
+faultAt N ps ws xs ts rate s = stepFault N (modelAfter N ps ws xs ts rate s) ws xs ts rate
+
+-- ---- the answer of `train`, and the refusal and the steps that it tells
+abbrev pub trainingOf : ℕ → ℕ → ℕ → Training
+trainingOf zero carried done = All done
+trainingOf (suc n) carried done = Stopped (record { number = suc n; carried = carried; done = done })
+
+abbrev pub trainingRefusal : Training → Refusal
+trainingRefusal (All steps) = none
+trainingRefusal (Stopped s) = record { number = s .number; carried = s .carried }
 
 abbrev pub stepsDone : Training → ℕ
 stepsDone (All steps) = steps
 stepsDone (Stopped s) = s .done
 
--- ---- steps, one after the other
--- the model after n steps
-unfoldable pub modelAfter : Basis → List Float → List ℕ → List Float → List Float → Float → ℕ → List Float
-modelAfter B ps ws xs ts rate zero = ps
-modelAfter B ps ws xs ts rate (suc n) = stepped B (modelAfter B ps ws xs ts rate n) ws xs ts rate
-
--- the refusal that step s meets, on the model after the steps before it
-abbrev pub faultAt : Basis → List Float → List ℕ → List Float → List Float → Float → ℕ → ℕ
-faultAt B ps ws xs ts rate s = stepFault B (modelAfter B ps ws xs ts rate s) ws xs ts rate
-
--- 11, then the batch and the rate: 0 where training may begin
-unfoldable pub startFault : List Float → List ℕ → List Float → List Float → Float → ℕ
-startFault ps ws xs ts rate = cond (allFinite ps) (trainingFault ws xs ts rate) 11
-
--- the refusal of `steps` steps, 0 for none, and how many are done
-unfoldable pub trainFault : Basis → List Float → List ℕ → List Float → List Float → Float → ℕ → ℕ
-trainFault B ps ws xs ts rate steps = orElse (startFault ps ws xs ts rate) (firstFault (faultAt B ps ws xs ts rate) steps)
-
-abbrev pub doneIf : ℕ → ℕ → ℕ
-doneIf zero done = done
-doneIf (suc n) done = 0
-
-unfoldable pub trainDone : Basis → List Float → List ℕ → List Float → List Float → Float → ℕ → ℕ
-trainDone B ps ws xs ts rate steps = doneIf (startFault ps ws xs ts rate) (doneTo (faultAt B ps ws xs ts rate) steps)
-
-unfoldable pub trainModel : Basis → List Float → List ℕ → List Float → List Float → Float → ℕ → List Float
-trainModel B ps ws xs ts rate steps = modelAfter B ps ws xs ts rate (trainDone B ps ws xs ts rate steps)
-
--- ---- the answers
-abbrev pub outcomeOf : ℕ → Outcome
-outcomeOf zero = Done
-outcomeOf (suc n) = refusedWith (suc n) 0
-
-abbrev pub trainingOf : ℕ → ℕ → Training
-trainingOf zero done = All done
-trainingOf (suc n) done = Stopped (record { number = suc n; carried = 0; done = done })
-
-abbrev pub trainingTo : Basis → List Float → List ℕ → List Float → List Float → Float → ℕ → Training
-trainingTo B ps ws xs ts rate steps = trainingOf (trainFault B ps ws xs ts rate steps) (trainDone B ps ws xs ts rate steps)
-
-abbrev pub refusedAtStart : ℕ → Training
-refusedAtStart n = Stopped (record { number = n; carried = 0; done = 0 })
-
-abbrev pub trainingAnswer : Checked → Training → Training
-trainingAnswer (Refused r) t = Stopped (record { number = r .number; carried = r .carried; done = 0 })
-trainingAnswer (Sound s) t = t
-
--- the configuration, 8 and 9
-abbrev pub provided : List ℕ → Grid → List Float → List Float → List Float → Checked
-provided ws g ps gs W = furnished ws g (length ps) (length gs) (length W)
-
 -- ---- the whole calls: the answer, and all lent memory. A step is training of one step.
-module _ (B : Basis) (ws : List ℕ) (g : Grid) (ps xs ts : List Float) (rate : Float) (gs W : List Float) where
-  pub record Stepped (r : Outcome) (ps′ gs′ W′ : List Float) : Type 0 where
-    pub answer : r ≡ answered (provided ws g ps gs W) (outcomeOf (trainFault B ps ws xs ts rate 1))
-    pub model : ps′ ≡ written (provided ws g ps gs W) ps (trainModel B ps ws xs ts rate 1)
-    pub gradients : gs′ ≡ sweptOf parametersOf (provided ws g ps gs W) gs
-    pub work : W′ ≡ sweptOf twiceNodes (provided ws g ps gs W) W
+module _ (N : Net) (ws : List ℕ) (g : Grid) (ps xs ts : List Float) (rate : Float) (gs W : List Float) where
+  abbrev to9 : ℕ
+  to9 = upTo9InTraining ws g (length ps) (length gs) (length W)
+
+  -- all checks before the first step
+  unfoldable pub upTo19 : ℕ
+  upTo19 = to9 then from11To19 ps ws xs ts rate
+
+  -- the refusal, and how many steps are done: none where a check before them refuses
+  unfoldable pub trainFault : ℕ → ℕ
+  trainFault steps = upTo19 then firstTo (faultAt N ps ws xs ts rate) steps
+
+  unfoldable pub trainDone : ℕ → ℕ
+  trainDone steps = past upTo19 (doneTo (faultAt N ps ws xs ts rate) steps) 0
+
+  -- 7 carries the total, and no refusal past the configuration carries anything
+  abbrev carried : ℕ
+  carried = carriedBy to9 (parametersIn (g .intervals + 5) ws)
+
+  -- what both calls leave of the model and of the work
+  pub record TrainingLeaves (steps : ℕ) (ps′ gs′ W′ : List Float) : Type 0 where
+    pub model : ps′ ≡ modelAfter N ps ws xs ts rate (trainDone steps)
+    pub gradients : gs′ ≡ swept to9 (parametersIn (g .intervals + 5) ws) gs
+    pub work : W′ ≡ swept to9 (2 * nodesIn ws) W
 
   pub record Trained (steps : ℕ) (r : Training) (ps′ gs′ W′ : List Float) : Type 0 where
-    pub answer : r ≡ trainingAnswer (provided ws g ps gs W) (trainingTo B ps ws xs ts rate steps)
-    pub model : ps′ ≡ written (provided ws g ps gs W) ps (trainModel B ps ws xs ts rate steps)
-    pub gradients : gs′ ≡ sweptOf parametersOf (provided ws g ps gs W) gs
-    pub work : W′ ≡ sweptOf twiceNodes (provided ws g ps gs W) W
+    pub answer : r ≡ trainingOf (trainFault steps) carried (trainDone steps)
+    pub leaves : TrainingLeaves steps ps′ gs′ W′
+
+  pub record Stepped (r : Outcome) (ps′ gs′ W′ : List Float) : Type 0 where
+    pub answer : r ≡ outcomeOf (trainFault 1) carried
+    pub leaves : TrainingLeaves 1 ps′ gs′ W′

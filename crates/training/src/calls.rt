@@ -2,16 +2,17 @@
 ghost use mathlib.Core.Path.{_≡_};
 ghost use Prim.Native.Nat.{_≤_, _<_};
 ghost use lib.ListN.{length};
-ghost use Rattle.exponential.specs.Steps.{Powers};
-ghost use Rattle.layers.specs.Basis.{basisOf, Basis};
+ghost use Rattle.layers.specs.Net.{netOf, Net};
 ghost use Rattle.layers.specs.Widths.{inputWidth, outputWidth};
-ghost use Rattle.training.specs.Step.{rateSound, trainingFault};
-ghost use Rattle.training.specs.Train.{refusedAtStart, Stepped, Trained};
-ghost use Rattle.training.specs.Stages.{Roomy, Ready, GatherDone, StepDone, StepsDone, TrainDone};
-use admission::furnish;
+ghost use Rattle.refusals.specs.Refusals.{_otherwise_, _then_};
+ghost use Rattle.batches.specs.Batch.{batchFault};
+ghost use Rattle.training_step.specs.Stages.{TrainingRoom, StepReady};
+ghost use Rattle.training.specs.Train.{rateSound, trainingOf, Stepped, Trained};
+ghost use Rattle.training.specs.Stages.{StepsDone, TrainDone};
+use admission::check_training_work;
 use config::Checked;
-use config::Outcome;
-use config::Refusal;
+use refusals::Outcome;
+use refusals::Refusal;
 use spline::Grid;
 
 // A refusal, what it carries, and how many steps were done before it.
@@ -40,10 +41,11 @@ fn rate_sound(rate: f32) -> bool
 // The batch, and then the rate: 0 where both are sound.
 fn training_fault(widths: &[usize], inputs: &[f32], targets: &[f32], rate: f32) -> u32
     requires { ⌜ (2 ≤ length (now widths)) × (0 < inputWidth (now widths)) × (0 < outputWidth (now widths)) ⌝ }
-    ensures { λ r. ⌜ r ≡ trainingFault (now (widths .entry)) (now (inputs .entry)) (now (targets .entry)) rate ⌝ }
+    ensures { λ r. ⌜ r ≡ (batchFault (inputWidth (now (widths .entry))) (outputWidth (now (widths .entry))) (now (inputs .entry)) (now (targets .entry))
+        then rateSound rate otherwise 19) ⌝ }
 {
     let last = widths.len() - 1;
-    let batch = rows::batch_fault(inputs, targets, widths[0], widths[last]);
+    let batch = batches::batch_fault(inputs, targets, widths[0], widths[last]);
     if batch != 0 {
         return batch;
     }
@@ -51,63 +53,6 @@ fn training_fault(widths: &[usize], inputs: &[f32], targets: &[f32], rate: f32) 
         return 0;
     }
     19
-}
-
-// The batch's gradients from +0.0, in front of `gradients`; false where a row meets 20.
-fn gather(
-    grid: Grid,
-    table: &[u32; 256],
-    widths: &[usize],
-    model: &[f32],
-    inputs: &[f32],
-    targets: &[f32],
-    gradients: &mut [f32],
-    work: &mut [f32],
-) -> bool
-    requires { ⌜ Ready grid (now widths) (now model) (now inputs) (now targets) (now gradients) (now work) × Powers (now table) ⌝ }
-    ensures { λ r. ⌜ GatherDone (basisOf grid) (now (widths .entry)) (now (model .entry)) (now (inputs .entry)) (now (targets .entry))
-        (now (gradients .entry)) (now (work .entry)) r (now (gradients .exit)) (now (work .exit)) ⌝ }
-{
-    let scale = 2.0 / (targets.len() as f32);
-    let count = model.len();
-    floats::clear(gradients, count);
-    descent::accumulate(
-        grid,
-        table,
-        widths,
-        model,
-        inputs,
-        targets,
-        scale,
-        &mut gradients[0..count],
-        work,
-    )
-}
-
-// Gathers, then moves all parameters or none: 20, 23, or 0 where the model has moved.
-fn step(
-    grid: Grid,
-    table: &[u32; 256],
-    widths: &[usize],
-    model: &mut [f32],
-    inputs: &[f32],
-    targets: &[f32],
-    rate: f32,
-    gradients: &mut [f32],
-    work: &mut [f32],
-) -> u32
-    requires { ⌜ Ready grid (now widths) (now model) (now inputs) (now targets) (now gradients) (now work) × Powers (now table) ⌝ }
-    ensures { λ r. ⌜ StepDone (basisOf grid) (now (widths .entry)) (now (model .entry)) (now (inputs .entry)) (now (targets .entry)) rate
-        (now (gradients .entry)) (now (work .entry)) r (now (model .exit)) (now (gradients .exit)) (now (work .exit)) ⌝ }
-{
-    if !gather(grid, table, widths, model, inputs, targets, gradients, work) {
-        return 20;
-    }
-    let count = model.len();
-    if descent::apply(model, &gradients[0..count], rate) {
-        return 0;
-    }
-    23
 }
 
 // Steps in order, up to the first that is refused; those before it stay. The table of E is laid out once for all.
@@ -122,13 +67,13 @@ fn run_steps(
     gradients: &mut [f32],
     work: &mut [f32],
 ) -> Training
-    requires { ⌜ Ready grid (now widths) (now model) (now inputs) (now targets) (now gradients) (now work) ⌝ }
-    ensures { λ r. ⌜ StepsDone (basisOf grid) (now (widths .entry)) (now (model .entry)) (now (inputs .entry)) (now (targets .entry)) steps
+    requires { ⌜ StepReady grid (now widths) (now model) (now inputs) (now targets) (now gradients) (now work) ⌝ }
+    ensures { λ r. ⌜ StepsDone (netOf grid) (now (widths .entry)) (now (model .entry)) (now (inputs .entry)) (now (targets .entry)) steps
         rate (now (gradients .entry)) (now (work .entry)) r (now (model .exit)) (now (gradients .exit)) (now (work .exit)) ⌝ }
 {
     let table = exponential::scaled_powers();
     for done in 0..steps {
-        let number = step(
+        let number = training_step::step(
             grid,
             &table,
             widths,
@@ -152,7 +97,8 @@ fn run_steps(
 
 // Refused before the first step.
 fn refused(number: u32) -> Training
-    ensures { λ r. ⌜ r ≡ refusedAtStart number ⌝ }
+    requires { ⌜ 0 < number ⌝ }
+    ensures { λ r. ⌜ r ≡ trainingOf number 0 0 ⌝ }
 {
     Training::Stopped(Stop {
         number,
@@ -173,8 +119,8 @@ fn train_sound(
     gradients: &mut [f32],
     work: &mut [f32],
 ) -> Training
-    requires { ⌜ Roomy grid (now widths) (now model) (now gradients) (now work) ⌝ }
-    ensures { λ r. ⌜ TrainDone (basisOf grid) (now (widths .entry)) (now (model .entry)) (now (inputs .entry)) (now (targets .entry)) steps
+    requires { ⌜ TrainingRoom grid (now widths) (now model) (now gradients) (now work) ⌝ }
+    ensures { λ r. ⌜ TrainDone (netOf grid) (now (widths .entry)) (now (model .entry)) (now (inputs .entry)) (now (targets .entry)) steps
         rate (now (gradients .entry)) (now (work .entry)) r (now (model .exit)) (now (gradients .exit)) (now (work .exit)) ⌝ }
 {
     if !floats::all_finite(model) {
@@ -209,10 +155,10 @@ pub fn train(
     gradients: &mut [f32],
     work: &mut [f32],
 ) -> Training
-    ensures { λ r. ⌜ Trained (basisOf grid) (now (widths .entry)) grid (now (model .entry)) (now (inputs .entry)) (now (targets .entry))
+    ensures { λ r. ⌜ Trained (netOf grid) (now (widths .entry)) grid (now (model .entry)) (now (inputs .entry)) (now (targets .entry))
         rate (now (gradients .entry)) (now (work .entry)) steps r (now (model .exit)) (now (gradients .exit)) (now (work .exit)) ⌝ }
 {
-    let checked = furnish(widths, grid, model.len(), gradients.len(), work.len());
+    let checked = check_training_work(widths, grid, model.len(), gradients.len(), work.len());
     match checked {
         Checked::Refused(refusal) => Training::Stopped(Stop {
             number: refusal.number,
@@ -251,7 +197,7 @@ pub fn train_step(
     gradients: &mut [f32],
     work: &mut [f32],
 ) -> Outcome
-    ensures { λ r. ⌜ Stepped (basisOf grid) (now (widths .entry)) grid (now (model .entry)) (now (inputs .entry)) (now (targets .entry))
+    ensures { λ r. ⌜ Stepped (netOf grid) (now (widths .entry)) grid (now (model .entry)) (now (inputs .entry)) (now (targets .entry))
         rate (now (gradients .entry)) (now (work .entry)) r (now (model .exit)) (now (gradients .exit)) (now (work .exit)) ⌝ }
 {
     let training = train(

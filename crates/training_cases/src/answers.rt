@@ -1,6 +1,6 @@
 // A call made, and all that it answers and leaves held to the words of the case.
 use case_reading::Cursor;
-use config::Refusal;
+use refusals::Refusal;
 use replay::float_of;
 use spline::Grid;
 use training::Training;

@@ -79,7 +79,7 @@ fn meets(
     second: &mut [f32],
     map: &mut [u8],
 ) -> bool {
-    let outcome = visits::visit_map(widths, grid, model, inputs, first, second, map);
+    let outcome = visit_map::visit_map(widths, grid, model, inputs, first, second, map);
     let answered = at.meet_outcome(words, outcome);
     let worked = answered
         .meet_floats(words, first)

@@ -1,17 +1,17 @@
 -- What a loop that writes words needs. Assumes nothing.
-use mathlib.Core.Path.{_≡_, refl, ap, _∙_}
+use mathlib.Core.Path.{_≡_, refl, _∙_}
 use mathlib.Core.List.{List, [], _∷_, _++_}
-use Prim.Native.Nat.{ℕ, zero, suc, _+_, _-_, _*_, _≤_}
+use Prim.Native.Nat.{ℕ, _+_, _-_, _*_, _≤_}
 use native.Mathlib.Omega.{arith}
 use lib.ListN.{length, take, drop, set}
-use lib.Seq.{drop-drop}
+use lib.Ieee.{Float}
 use borrow.Rule.Slice.PartMut.{putMid}
-use Rattle.floats.specs.Sums.{flatTo}
 use Rattle.floats.proofs.Loops.{flat-none, flat-length, part-more, rest}
-use Rattle.words.specs.Words.{bytesOf, bytesAt, packed}
+use Rattle.words.specs.Words.{bytesOf, bytesAt, packed, packedWords, packedFloats}
 
 -- a word is four stores
-pub four-stores : (b : List ℕ) (w x y z : ℕ) → 4 ≤ length b → set (set (set (set b 0 w) 1 x) 2 y) 3 z ≡ w ∷ x ∷ y ∷ z ∷ drop 4 b
+pub four-stores : (b : List ℕ) (w x y z : ℕ) → 4 ≤ length b
+    → set (set (set (set b 0 w) 1 x) 2 y) 3 z ≡ w ∷ x ∷ y ∷ z ∷ drop 4 b
 four-stores [] w x y z h = absurd (omega arith)
 four-stores (b0 ∷ []) w x y z h = absurd (omega arith)
 four-stores (b0 ∷ b1 ∷ []) w x y z h = absurd (omega arith)
@@ -25,6 +25,14 @@ four f i = refl
 pub packed-length : (f : ℕ → ℕ) (n : ℕ) → length (packed f n) ≡ n * 4
 unfolding packed
 packed-length f n = flat-length (bytesAt f) 4 (four f) n
+
+pub packed-words-length : (ws : List ℕ) → length (packedWords ws) ≡ length ws * 4
+unfolding packedWords
+packed-words-length ws = packed-length _ (length ws)
+
+pub packed-floats-length : (ps : List Float) → length (packedFloats ps) ≡ length ps * 4
+unfolding packedFloats
+packed-floats-length ps = packed-length _ (length ps)
 
 pub pack-none : (f : ℕ → ℕ) (d : List ℕ) → d ≡ packed f 0 ++ drop (0 * 4) d
 unfolding packed

@@ -1,11 +1,11 @@
 -- Patterns of 32 bits: which are NaN's, which are finite numbers'. Assumes nothing.
 use mathlib.Core.Path.{_≡_, refl, sym, _∙_}
 use mathlib.Core.Bool.{Bool, true, false, not, cond}
-use Prim.Native.Nat.{ℕ, zero, suc, _+_, _*_, _/_, _%_, _^_, _≤_, _<_}
+use Prim.Native.Nat.{ℕ, zero, suc, _+_, _/_, _%_, _≤_, _<_}
 use native.Mathlib.Omega.{arith}
 use borrow.Author.Tests.{lt-ltb, le-ltb, eq-eqb, ne-eqb, ltb-true, ltb-false}
 use lib.Dec.{T, ltb, eqb}
-use lib.Ieee.{Float, nan, inf, fin, binary32, fits, odd, ofFields, ofBits, toBits, isNan, nanBits}
+use lib.Ieee.{Float, nan, inf, fin, binary32, odd, ofFields, ofBits, isNan, nanBits}
 use lib.Ieee.Bits.{nanBits-is, nanBits-above}
 use lib.Ieee.Scale.{finite}
 
@@ -51,7 +51,8 @@ exponent m l = by (ltb m 0x7f80_0000) refl
 pub finite-pattern : (bits : ℕ) → ltb (bits % 0x8000_0000) 0x7f80_0000 ≡ finite (ofBits binary32 bits)
 unfolding ofBits
 finite-pattern bits =
-    sym (exponent (bits % 0x8000_0000) (omega arith)) ∙ sym (fields-finite _ (bits % 0x8000_0000 / 8388608) (bits % 8388608))
+    sym (exponent (bits % 0x8000_0000) (omega arith))
+    ∙ sym (fields-finite _ (bits % 0x8000_0000 / 8388608) (bits % 8388608))
 
 -- a finite number is no NaN
 pub finite-number : (x : Float) → finite x ≡ true → T (not (isNan x))

@@ -1,16 +1,17 @@
--- A word that was written is read again, and words that were read, written again, are the bytes they were. Assumes nothing.
+-- A word that was written is read again, and words that were read, written again, are the bytes they were.
+-- Assumes nothing.
 use Prim.Native.Nat.{ℕ, zero, suc, _+_, _-_, _*_, _/_, _%_, _^_, _≤_, _<_}
 use native.Mathlib.Nat.{div-div-eq-div-mul, div-add-mod', mod-eq-of-lt}
-use native.Mathlib.Nat.{add-zero, add-assoc, suc-mul, eq-or-lt-of-le, le-of-suc-le-suc, lt-suc-self, zero-mul}
+use native.Mathlib.Nat.{add-zero, add-assoc, suc-mul, eq-or-lt-of-le, le-of-suc-le-suc, lt-suc-self}
 use native.Mathlib.Numerals.{add-one}
 use native.Mathlib.Omega.{arith}
 use mathlib.Core.Path.{_≡_, refl, sym, ap, _∙_}
 use mathlib.Core.Logic.{inl, inr}
 use mathlib.Core.List.{List, [], _∷_, _++_, append-assoc}
-use lib.ListN.{length, getD, take, drop, length-append, length-drop}
-use lib.Seq.{getD-append-add, getD-drop, drop-cons, take-add, drop-drop}
+use lib.ListN.{length, getD, take, drop}
+use lib.Seq.{getD-append-add, drop-cons, take-add, drop-drop}
 use Rattle.floats.specs.Sums.{flatTo}
-use Rattle.words.specs.Words.{Bytes, wordAt, bytesOf, bytesAt, packed}
+use Rattle.words.specs.Words.{Bytes, wordAt, bytesOf, packed}
 use Rattle.words.proofs.Packs.{packed-length}
 
 -- ---- a word behind other bytes
@@ -33,7 +34,8 @@ sum-digits : (w q1 q2 q3 r0 r1 r2 : ℕ) → q1 * 256 + r0 ≡ w → q2 * 256 + 
     → r0 + 256 * r1 + 65536 * r2 + 16777216 * q3 ≡ w
 sum-digits w q1 q2 q3 r0 r1 r2 e0 e1 e2 = omega arith
 
-last-digit : (w q1 q2 q3 r0 r1 r2 : ℕ) → q1 * 256 + r0 ≡ w → q2 * 256 + r1 ≡ q1 → q3 * 256 + r2 ≡ q2 → w < 2 ^ 32 → q3 < 256
+last-digit : (w q1 q2 q3 r0 r1 r2 : ℕ) → q1 * 256 + r0 ≡ w → q2 * 256 + r1 ≡ q1 → q3 * 256 + r2 ≡ q2 → w < 2 ^ 32
+    → q3 < 256
 last-digit w q1 q2 q3 r0 r1 r2 e0 e1 e2 h = omega arith
 
 digits : (w : ℕ) → w < 2 ^ 32
@@ -46,7 +48,8 @@ digits w h =
     let third : w / 16777216 ≡ q3 = div-again w 256 65536 ∙ div-again q1 256 256 in
     let top : q3 % 256 ≡ q3 =
     mod-eq-of-lt (last-digit w q1 q2 q3 _ _ _ (div-add-mod' w 256) (div-add-mod' q1 256) (div-add-mod' q2 256) h) in
-    rw (second, third, top) (sum-digits w q1 q2 q3 _ _ _ (div-add-mod' w 256) (div-add-mod' q1 256) (div-add-mod' q2 256))
+    rw (second, third, top)
+    (sum-digits w q1 q2 q3 _ _ _ (div-add-mod' w 256) (div-add-mod' q1 256) (div-add-mod' q2 256))
 
 word-front : (w : ℕ) (r : List ℕ) → w < 2 ^ 32 → wordAt (bytesOf w ++ r) 0 ≡ w
 unfolding wordAt bytesOf
@@ -60,7 +63,8 @@ packed-at f (suc n) i r h s =
     ap (λ (l : List ℕ). wordAt l (i * 4)) (append-assoc (packed f n) (bytesOf (f n)) r)
     ∙ elim (eq-or-lt-of-le (le-of-suc-le-suc h)) [
       | inl e ↦ ap (λ (k : ℕ). wordAt (packed f n ++ (bytesOf (f n) ++ r)) k) (rw e (sym (add-zero (n * 4))))
-          ∙ skip (packed f n) (bytesOf (f n) ++ r) (n * 4) 0 (packed-length f n) ∙ word-front (f n) r (rw e at s) ∙ ap f (sym e)
+          ∙ skip (packed f n) (bytesOf (f n) ++ r) (n * 4) 0 (packed-length f n) ∙ word-front (f n) r (rw e at s)
+          ∙ ap f (sym e)
       | inr l ↦ packed-at f n i (bytesOf (f n) ++ r) l s
     ]
 
@@ -103,7 +107,8 @@ front-four bs p h =
 pub bytes-again : (bs : List ℕ) (p : ℕ) → Bytes bs → p + 4 ≤ length bs → bytesOf (wordAt bs p) ≡ take 4 (drop p bs)
 unfolding wordAt
 bytes-again bs p b h =
-    four-digits _ _ _ _ (b p (omega arith)) (b (p + 1) (omega arith)) (b (p + 2) (omega arith)) (b (p + 3) (omega arith))
+    four-digits _ _ _ _ (b p (omega arith)) (b (p + 1) (omega arith)) (b (p + 2) (omega arith))
+    (b (p + 3) (omega arith))
     ∙ sym (front-four bs p h)
 
 -- n words from p on
@@ -113,7 +118,8 @@ unfolding packed flatTo
 packed-again bs p zero f b h e = refl
 packed-again bs p (suc n) f b h e =
     let room : p + n * 4 + 4 ≤ length bs = omega (arith, suc-mul n 4) in
-    let before : packed f n ≡ take (n * 4) (drop p bs) = packed-again bs p n f b (omega arith) (λ i l. e i (omega arith)) in
+    let before : packed f n ≡ take (n * 4) (drop p bs) =
+    packed-again bs p n f b (omega arith) (λ i l. e i (omega arith)) in
     let last : bytesOf (f n) ≡ take 4 (drop (n * 4) (drop p bs)) =
     ap bytesOf (e n (lt-suc-self n)) ∙ bytes-again bs (p + n * 4) b room ∙ ap (take 4) (sym (drop-drop (n * 4) p bs)) in
     ap (λ (l : List ℕ). l ++ bytesOf (f n)) before ∙ ap (λ (l : List ℕ). take (n * 4) (drop p bs) ++ l) last

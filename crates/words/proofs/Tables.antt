@@ -4,7 +4,7 @@ use mathlib.Core.Bool.{Bool, true, false}
 use mathlib.Core.List.{List, [], append-nil}
 use Prim.Native.Nat.{ℕ, _+_, _*_, _<_}
 use lib.ListN.{length, getD}
-use lib.Ieee.{Float, nan}
+use lib.Ieee.{nan}
 use lib.Ieee.Scale.{finite}
 use Rattle.floats.specs.Sums.{tabulate, at, finiteAt, allTo}
 use Rattle.floats.proofs.Loops.{tab-get, tab-length, all-stop}

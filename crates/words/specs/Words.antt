@@ -1,5 +1,5 @@
--- "Little-endian words of 4 bytes" (document 01, "Model image"), in a list of bytes, and the numbers that they stand for.
--- Definitions only.
+-- "Little-endian words of 4 bytes" (document 01, "Model image"), in a list of bytes, and the numbers that they stand
+-- for. Definitions only.
 use Prim.Native.Nat.{ℕ, _+_, _*_, _/_, _%_, _<_}
 use mathlib.Core.List.{List, [], _∷_}
 use lib.ListN.{length, getD}

@@ -1,5 +1,5 @@
-// Inner crate: little-endian words of 4 bytes in lent slices of bytes, and the numbers that they stand for. Callers have
-// checked that the words lie within the bytes.
+// Inner crate: little-endian words of 4 bytes in lent slices of bytes, and the numbers that they stand for. Callers
+// have checked that the words lie within the bytes.
 ghost use mathlib.Core.Path.{_≡_};
 ghost use mathlib.Core.Bool.{true};
 ghost use mathlib.Core.List.{_++_};

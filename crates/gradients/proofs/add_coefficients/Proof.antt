@@ -4,7 +4,7 @@ use Prim.Native.Nat.{_+_, _≤_, _-_}
 use native.Mathlib.Omega.{arith}
 use lib.ListN.{length, length-set}
 use Rattle.floats.specs.Sums.{tabulate}
-use Rattle.layers.specs.Basis.{basisOf}
+use Rattle.layers.specs.Net.{basisOf}
 use Rattle.gradients.specs.Steps.{plusOf, weighted}
 use Rattle.gradients.proofs.Adding.{plus-start, plus-one}
 use Rattle.gradients.proofs.add_coefficients.Statement.{statement}
@@ -12,7 +12,8 @@ use Rattle.gradients.proofs.add_coefficients.Tie as tie
 
 abbrev Inv-loop : tie.InvT-loop
 Inv-loop grid u x gradients₀ n k₀ gradients k =
-    (k ≤ n) × (length gradients ≡ length gradients₀) × (gradients ≡ plusOf gradients₀ (tabulate (weighted (basisOf grid) u x) k))
+    (k ≤ n) × (length gradients ≡ length gradients₀)
+    × (gradients ≡ plusOf gradients₀ (tabulate (weighted (basisOf grid) u x) k))
 
 abbrev μ-loop : tie.MeasureT-loop
 μ-loop grid u x gradients₀ n k₀ gradients k = n - k

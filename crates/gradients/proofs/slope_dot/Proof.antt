@@ -4,7 +4,7 @@ use Prim.Native.Nat.{_≤_, _-_}
 use native.Mathlib.Omega.{arith}
 use Rattle.floats.specs.Sums.{sumTo, sumFrom}
 use Rattle.floats.proofs.Loops.{sum-none, sum-more}
-use Rattle.layers.specs.Basis.{basisOf}
+use Rattle.layers.specs.Net.{basisOf}
 use Rattle.layers.specs.Layer.{termOf, dotOf}
 use Rattle.gradients.proofs.slope_dot.Statement.{statement}
 use Rattle.gradients.proofs.slope_dot.Tie as tie
@@ -37,7 +37,11 @@ loop-less : tie.Need-loop-less Inv-loop μ-loop
 loop-less c = omega arith
 
 loop-again : tie.Need-loop-again Inv-loop μ-loop
-loop-again c = (omega arith, sum-more _ _ _ _ _ (c .before .before .before .loop .inv .1) (rw (c .basis-slope .ensures)))
+loop-again c = (
+  omega arith,
+  sum-more _ _ _ _ _ (c .before .before .before .loop .inv .1)
+      (rw (c .basis-slope .ensures)),
+)
 
 returns : tie.Need-returns Inv-loop μ-loop
 unfolding dotOf

@@ -1,23 +1,50 @@
 -- `loss::add_errors` meets its contract: after i turns the sum has i errors more. Assumes nothing.
 use borrow.Author.Needs.{needs}
-use mathlib.Core.Path.{_≡_, sym, ap, _∙_}
-use Prim.Native.Nat.{ℕ, _≤_, _-_}
+use mathlib.Core.Path.{_≡_, sym, _∙_}
+use Prim.Native.Nat.{_≤_, _-_}
 use native.Mathlib.Omega.{arith}
 use lib.ListN.{length}
-use Rattle.loss.specs.declared.Sum.the-variants.{Of}
-use Rattle.loss.specs.Loss.{errorsTo}
-use Rattle.loss.proofs.Errors.{errors-none, errors-more, errors-stay}
+use Rattle.floats.specs.Sums.{sumFrom}
+use Rattle.floats.proofs.Loops.{sum-none}
+use Rattle.loss.specs.Steps.{errorIn, errorFault, errorsTo}
+use Rattle.loss.proofs.Errors.{Running, none-added, one-added, stop-added, all-added, afterOutput, output-added}
 use Rattle.loss.proofs.add_errors.Statement.{statement}
 use Rattle.loss.proofs.add_errors.Tie as tie
 
 abbrev Inv-loop : tie.InvT-loop
-Inv-loop sum outputs targets total₀ i₀ i-end total i = (i ≤ length outputs) × (errorsTo sum outputs targets i ≡ Of total)
+Inv-loop sum outputs targets total₀ i₀ i-end total i =
+    (i ≤ length outputs) × Running (errorFault sum outputs targets) (sumFrom sum (errorIn outputs targets)) i total
 
 abbrev μ-loop : tie.MeasureT-loop
 μ-loop sum outputs targets total₀ i₀ i-end total i = length outputs - i
 
+-- ---- from place to place: only these lines know how many places lie between
+abbrev head : tie.After-add-error Inv-loop μ-loop → tie.At-loop Inv-loop μ-loop
+head c = c .before .before .before .before
+
+abbrev entry : tie.At-loop Inv-loop μ-loop → tie.Start Inv-loop μ-loop
+entry c = c .before .before .before
+
+abbrev stop : tie.After-known-told2 Inv-loop μ-loop → tie.After-add-error Inv-loop μ-loop
+stop c = c .before .before .before
+
+abbrev go-on : tie.After-known-told Inv-loop μ-loop → tie.After-add-error Inv-loop μ-loop
+go-on c = c .before .before .before
+
+-- ---- what output i adds
+added : (c : tie.After-add-error Inv-loop μ-loop)
+    → c .add-error .result
+    ≡ afterOutput (entry (head c) .args .sum) (entry (head c) .args .outputs .now) (entry (head c) .args .targets .now)
+    (head c .loop .i)
+added c =
+    let args = entry (head c) .args in
+    c .add-error .ensures
+    ∙ output-added (args .sum) _ (args .outputs .now) (args .targets .now) (head c .loop .i)
+    (head c .loop .inv .1 .value)
+
+-- ---- the needs
 loop-holds : tie.Need-loop-holds Inv-loop μ-loop
-loop-holds c = (omega arith, errors-none _ _ _)
+loop-holds c = (omega arith, none-added _ (sum-none _ _))
 
 mul-add-error : tie.Need-mul-add-error Inv-loop μ-loop
 mul-add-error c = omega arith
@@ -41,12 +68,9 @@ enum-known-step-2 : tie.Need-enum-known-step-2 Inv-loop μ-loop
 enum-known-step-2 c = search needs
 
 returns : tie.Need-returns Inv-loop μ-loop
+unfolding errorsTo
 returns c =
-    let at-add-error = c .before .before .before in
-    let at-loop = at-add-error .before .before .before .before in
-    sym (errors-stay _ _ _ _ _ _ (omega arith)
-    (errors-more _ _ _ _ _ (at-loop .loop .inv .1)
-    ∙ sym (at-add-error .add-error .ensures) ∙ c .before .step2 .given .1))
+    stop-added _ (omega arith) (head (stop c) .loop .inv .1) (sym (added (stop c)) ∙ c .before .step2 .given .1)
 
 add-i : tie.Need-add-i Inv-loop μ-loop
 add-i c = omega arith
@@ -56,15 +80,11 @@ loop-less c = omega arith
 
 loop-again : tie.Need-loop-again Inv-loop μ-loop
 loop-again c =
-    let at-add-error = c .before .before .before in
-    let at-loop = at-add-error .before .before .before .before in (
-      omega arith,
-      errors-more _ _ _ _ _ (at-loop .loop .inv .1)
-          ∙ sym (at-add-error .add-error .ensures) ∙ c .before .step .given .1,
-    )
+    (omega arith, one-added (head (go-on c) .loop .inv .1) (sym (added (go-on c)) ∙ c .before .step .given .1))
 
 returns-2 : tie.Need-returns-2 Inv-loop μ-loop
-returns-2 c = sym (c .before .loop .inv .1) ∙ ap (errorsTo _ _ _) (omega arith)
+unfolding errorsTo
+returns-2 c = all-added _ (omega arith) (c .before .loop .inv .1)
 
 pub add-errors-spec : {M : Type 1} → statement M
 add-errors-spec =

@@ -1,11 +1,19 @@
 -- `loss::row_errors` meets its contract. Assumes nothing.
-use mathlib.Core.Path.{_≡_, _∙_}
+use borrow.Author.Needs.{needs}
+use mathlib.Core.Path.{_∙_}
 use borrow.Author.Tests.{eq-eqb, ne-eqb}
 use Rattle.loss.proofs.Errors.{front-errors}
-use borrow.Author.Needs.{needs}
 use Rattle.loss.proofs.row_errors.Statement.{statement}
 use Rattle.loss.proofs.row_errors.Tie as tie
 
+-- ---- from place to place: only these lines know how many places lie between
+abbrev even : tie.Then1 → tie.Start
+even c = c .before .before .before .before
+
+abbrev odd : tie.Else1 → tie.Start
+odd c = c .before .before .before .before
+
+-- ---- the needs
 sub-add-errors : tie.Need-sub-add-errors
 sub-add-errors c = search needs
 
@@ -32,15 +40,15 @@ add-errors-requires-2 c κs = search needs
 
 returns : tie.Need-returns
 returns c =
-    let start = c .before .before .before .before .before .before in
-    let e = eq-eqb _ _ (c .before .before .if1 .taken) in rw e
-    (c .add-errors .ensures ∙ front-errors _ _ _ _ (start .pre .1))
+    let branch = c .before .before in
+    let e = eq-eqb _ _ (branch .if1 .taken) in
+    rw e (c .add-errors .ensures ∙ front-errors _ _ _ _ (even branch .pre .1))
 
 returns-2 : tie.Need-returns-2
 returns-2 c =
-    let start = c .before .before .before .before .before .before in
-    let e = ne-eqb _ _ (c .before .before .if1 .left) in rw e
-    (c .add-errors2 .ensures ∙ front-errors _ _ _ _ (start .pre .0))
+    let branch = c .before .before in
+    let e = ne-eqb _ _ (branch .if1 .left) in
+    rw e (c .add-errors2 .ensures ∙ front-errors _ _ _ _ (odd branch .pre .0))
 
 pub row-errors-spec : {M : Type 1} → statement M
 row-errors-spec =

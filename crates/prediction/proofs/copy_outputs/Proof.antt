@@ -1,12 +1,7 @@
 -- `prediction::copy_outputs` meets its contract. Assumes nothing.
-use mathlib.Core.Path.{_≡_, _∙_, ap}
-use borrow.Author.Tests.{eq-eqb, ne-eqb}
-use lib.ListN.{length, take, drop}
-use mathlib.Core.List.{List, _++_}
-use lib.Ieee.{Float}
-use Rattle.floats.proofs.Loops.{front, front-length}
-use Rattle.prediction.proofs.Outputs.{copied}
 use borrow.Author.Needs.{needs}
+use borrow.Author.Tests.{eq-eqb, ne-eqb}
+use Rattle.prediction.proofs.Outputs.{copied}
 use Rattle.prediction.proofs.copy_outputs.Statement.{statement}
 use Rattle.prediction.proofs.copy_outputs.Tie as tie
 
@@ -39,20 +34,20 @@ same-length c = search needs
 
 returns : tie.Need-returns
 returns c =
-    let at-if1 = c .before .before .before .before .before in
-    let start = at-if1 .before .before .before .before in
-    let e = eq-eqb _ _ (at-if1 .if1 .taken) in rw e
-    (copied _ _ _ _ (start .pre .1) (c .before .before .copy .ensures))
+    let even = c .before .before .before .before .before in
+    let entry = even .before .before .before .before in
+    let e = eq-eqb _ _ (even .if1 .taken) in
+    rw e (copied _ _ _ _ (entry .pre .1) (c .before .before .copy .ensures))
 
 same-length-2 : tie.Need-same-length-2
 same-length-2 c = search needs
 
 returns-2 : tie.Need-returns-2
 returns-2 c =
-    let at-if1 = c .before .before .before .before .before in
-    let start = at-if1 .before .before .before .before in
-    let e = ne-eqb _ _ (at-if1 .if1 .left) in rw e
-    (copied _ _ _ _ (start .pre .0) (c .before .before .copy2 .ensures))
+    let odd = c .before .before .before .before .before in
+    let entry = odd .before .before .before .before in
+    let e = ne-eqb _ _ (odd .if1 .left) in
+    rw e (copied _ _ _ _ (entry .pre .0) (c .before .before .copy2 .ensures))
 
 pub copy-outputs-spec : {M : Type 1} → statement M
 copy-outputs-spec =

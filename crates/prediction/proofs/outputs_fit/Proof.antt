@@ -1,5 +1,4 @@
 -- `prediction::outputs_fit` meets its contract: quotient and remainder decide the product. Assumes nothing.
-use mathlib.Core.Path.{sym, _∙_}
 use Rattle.prediction.proofs.Outputs.{fit-whole, fit-not}
 use borrow.Author.Needs.{needs}
 use Rattle.prediction.proofs.outputs_fit.Statement.{statement}

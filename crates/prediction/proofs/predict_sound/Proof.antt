@@ -1,13 +1,49 @@
--- `prediction::predict_sound` meets its contract. Assumes nothing.
-use mathlib.Core.Path.{_≡_, sym, _∙_}
-use native.Mathlib.Omega.{arith}
-use Prim.Native.Nat.{ℕ, _-_, _<_, _≤_}
-use borrow.Author.Tests.{not-true, not-false}
-use Rattle.prediction.proofs.Rows.{wrong-outputs, wild-model, rows-done, outputs-room}
+-- `prediction::predict_sound` meets its contract: 10, 11, and then the rows. Assumes nothing.
 use borrow.Author.Needs.{needs}
+use mathlib.Core.Path.{_≡_, sym, _∙_}
+use mathlib.Core.Bool.{true}
+use lib.ListN.{length}
+use borrow.Author.Tests.{not-true, not-false}
+use Rattle.floats.specs.Sums.{allFinite}
+use Rattle.layers.specs.Widths.{inputWidth, outputWidth}
+use Rattle.passes.proofs.EachRow.{wide-rows}
+use Rattle.prediction.specs.Predict.{outputsFit}
+use Rattle.prediction.proofs.Calls.{wrong-outputs, wild-model, rows-run, outputs-room}
 use Rattle.prediction.proofs.predict_sound.Statement.{statement}
 use Rattle.prediction.proofs.predict_sound.Tie as tie
 
+-- ---- from place to place: only these lines know how many places lie between
+abbrev lent : tie.After-shared-slice-known5 → tie.After-slice-known
+lent c = c .before .before .before .before
+
+abbrev entry : tie.After-shared-slice-known5 → tie.Start
+entry c = lent c .before .before .before .before
+
+abbrev start : tie.Else1 → tie.Start
+start c = entry (c .before .before)
+
+abbrev fitting : tie.Else2 → tie.Else1
+fitting c = c .before .before
+
+abbrev asked : tie.After-predict-rows-arg3 → tie.After-rows-in
+asked c = c .before .before .before
+
+abbrev home : tie.After-slice-known6 → tie.After-second
+home c = c .before .before .before
+
+abbrev ran : tie.After-slice-known6 → tie.After-predict-rows
+ran c = home c .before .before .before
+
+-- ---- what 10 and 11 leave
+fit : (c : tie.Else1)
+    → outputsFit (inputWidth (start c .args .widths .now)) (outputWidth (start c .args .widths .now))
+    (length (start c .args .inputs .now)) (length (start c .args .outputs .now)) ≡ true
+fit c = sym (c .before .outputs-fit .ensures) ∙ not-false _ (c .if1 .left)
+
+finite : (c : tie.Else2) → allFinite (start (fitting c) .args .model .now) ≡ true
+finite c = sym (c .before .all-finite .ensures) ∙ not-false _ (c .if2 .left)
+
+-- ---- the needs
 sub-layers : tie.Need-sub-layers
 sub-layers c = search needs
 
@@ -21,43 +57,29 @@ shared-slice-read-outputs-fit : tie.Need-shared-slice-read-outputs-fit
 shared-slice-read-outputs-fit c = search needs
 
 outputs-fit-requires : tie.Need-outputs-fit-requires
-outputs-fit-requires c κs =
-    let start = c .before .before .before .before .before .before .before .before in
-    let p = start .pre in
-    (p .positive 0 (omega (arith, p .some)), p .positive _ (omega (arith, p .some)))
+outputs-fit-requires c κs = wide-rows (entry c .pre)
 
 returns : tie.Need-returns
-returns c = wrong-outputs _ _ _ _ _ _ _ (sym (c .before .outputs-fit .ensures) ∙ not-true _ (c .if1 .taken))
+returns c = wrong-outputs (sym (c .before .outputs-fit .ensures) ∙ not-true _ (c .if1 .taken))
 
 all-finite-requires : tie.Need-all-finite-requires
 all-finite-requires c κs = search needs
 
 returns-2 : tie.Need-returns-2
-returns-2 c =
-    let at-outputs-fit = c .before .before .before in
-    wild-model _ _ _ _ _ _ _ (sym (at-outputs-fit .outputs-fit .ensures) ∙ not-false _ (c .before .before .if1 .left))
-    (sym (c .before .all-finite .ensures) ∙ not-true _ (c .if2 .taken))
+returns-2 c = wild-model (fit (c .before .before)) (sym (c .before .all-finite .ensures) ∙ not-true _ (c .if2 .taken))
 
 rows-in-requires : tie.Need-rows-in-requires
-rows-in-requires c κs =
-    let start = c .before .before .before .before .before .before .before .before .before .before .before .before in
-    let p = start .pre in p .positive 0
-    (omega (arith, p .some))
+rows-in-requires c κs = wide-rows (start (fitting c) .pre) .0
 
 predict-rows-requires : tie.Need-predict-rows-requires
 predict-rows-requires c κs =
-    let at-rows-in = c .before .before .before in
-    let at-if2 = at-rows-in .before in
-    let at-all-finite = at-if2 .before in
-    let at-if1 = at-all-finite .before in
-    let at-outputs-fit = at-if1 .before in
-    let start = at-outputs-fit .before .before .before .before .before .before .before .before .before in
+    let counted = asked c in
+    let e = counted .before in
     record {
-      fits = start .pre;
-      finite = sym (at-all-finite .all-finite .ensures) ∙ not-false _ (at-if2 .if2 .left);
-      count = at-rows-in .rows-in .ensures;
-      room = outputs-room _ _ _ _ _
-          (sym (at-outputs-fit .outputs-fit .ensures) ∙ not-false _ (at-if1 .if1 .left)) (at-rows-in .rows-in .ensures);
+      fits = start (fitting e) .pre;
+      finite = finite e;
+      count = counted .rows-in .ensures;
+      room = outputs-room _ _ _ _ _ (fit (fitting e)) (counted .rows-in .ensures);
     }
 
 same-length : tie.Need-same-length
@@ -71,16 +93,9 @@ same-length-3 c = search needs
 
 returns-3 : tie.Need-returns-3
 returns-3 c =
-    let at-predict-rows = c .before .before .before .before .before .before in
-    let at-rows-in = at-predict-rows .before .before .before .before in
-    let at-if2 = at-rows-in .before in
-    let at-all-finite = at-if2 .before in
-    let at-if1 = at-all-finite .before in
-    let at-outputs-fit = at-if1 .before in
-    rows-done _ _ _ _ _ _ _ _ _ _ _ _
-    (sym (at-outputs-fit .outputs-fit .ensures) ∙ not-false _ (at-if1 .if1 .left))
-    (sym (at-all-finite .all-finite .ensures) ∙ not-false _ (at-if2 .if2 .left)) (at-rows-in .rows-in .ensures)
-    (at-predict-rows .predict-rows .ensures)
+    let after = ran c in
+    let e = asked (after .before) .before in
+    rows-run (fit (fitting e)) (finite e) (after .predict-rows .ensures)
 
 pub predict-sound-spec : {M : Type 1} → statement M
 predict-sound-spec =

@@ -1,5 +1,5 @@
 -- `hex_word` is the definition's word. The loop keeps what the digits passed stand for.
-use mathlib.Core.Path.{sym, _∙_}
+use mathlib.Core.Path.{_≡_, sym, _∙_}
 use Prim.Native.Nat.{_-_, _≤_}
 use native.Mathlib.Omega.{arith}
 use borrow.Author.Needs.{needs}
@@ -15,6 +15,25 @@ Inv-loop text number₀ i₀ number i = Read text number i
 abbrev μ-loop : tie.MeasureT-loop
 μ-loop text number₀ i₀ number i = length text - i
 
+-- ---- from place to place
+abbrev start : tie.Else2 Inv-loop μ-loop → tie.Start Inv-loop μ-loop
+start c = c .before .before .before
+
+-- the turn, and the loop's head, from where a digit was read
+abbrev turn : tie.After-digit Inv-loop μ-loop → tie.In-loop Inv-loop μ-loop
+turn c = c .before .before
+
+abbrev head : tie.After-digit Inv-loop μ-loop → tie.At-loop Inv-loop μ-loop
+head c = turn c .before
+
+-- ---- what is known there
+some : (c : tie.Else2 Inv-loop μ-loop) → length (start c .args .text .now) ≡ 0 → ⊥
+some c = c .before .if1 .left
+
+digit-small : (c : tie.After-digit Inv-loop μ-loop) → c .digit .result ≤ 16
+digit-small c = rw (c .digit .ensures) (digit-most _)
+
+-- ---- the needs
 returns : tie.Need-returns Inv-loop μ-loop
 returns c = word-none _ (c .if1 .taken)
 
@@ -32,17 +51,17 @@ digit-requires c κs = search needs
 
 returns-3 : tie.Need-returns-3 Inv-loop μ-loop
 returns-3 c =
-    let r = c .before .before .before .before .loop .inv in
-    let other = read-other r (c .before .before .before .loop-test .taken) (sym (c .before .digit .ensures) ∙ c .if3 .taken) in
-    word-other _ (c .before .before .before .before .before .before .if1 .left) (c .before .before .before .before .before .if2 .left) other
+    let digit = c .before in
+    let here = head digit in
+    let none = sym (digit .digit .ensures) ∙ c .if3 .taken in
+    let other = read-other (here .loop .inv) (turn digit .loop-test .taken) none in
+    word-other _ (some (here .before)) (here .before .if2 .left) other
 
 mul-number : tie.Need-mul-number Inv-loop μ-loop
-mul-number c = omega (arith, word-room (c .before .before .before .before .loop .inv) (omega arith))
+mul-number c = omega (arith, word-room (head (c .before) .loop .inv) (omega arith))
 
 add-number : tie.Need-add-number Inv-loop μ-loop
-add-number c =
-    let d : c .before .digit .result ≤ 16 = rw (c .before .digit .ensures) (digit-most _) in
-    omega (arith, d, word-room (c .before .before .before .before .loop .inv) (omega arith))
+add-number c = omega (arith, digit-small (c .before), word-room (head (c .before) .loop .inv) (omega arith))
 
 add-i : tie.Need-add-i Inv-loop μ-loop
 add-i c = omega arith
@@ -52,15 +71,16 @@ loop-less c = omega arith
 
 loop-again : tie.Need-loop-again Inv-loop μ-loop
 loop-again c =
-    let d : c .before .digit .result ≤ 16 = rw (c .before .digit .ensures) (digit-most _) in
+    let digit = c .before in
+    let small = digit-small digit in
     let other = c .if3 .left in
-    let r = c .before .before .before .before .loop .inv in
-    read-more r _ (c .before .before .before .loop-test .taken) (c .before .digit .ensures) (omega arith)
+    read-more (head digit .loop .inv) _ (turn digit .loop-test .taken) (digit .digit .ensures) (omega arith)
 
 returns-4 : tie.Need-returns-4 Inv-loop μ-loop
 returns-4 c =
-    let all = read-all (c .before .loop .inv) (c .loop-test .left) in
-    word-number _ (c .before .before .before .if1 .left) (c .before .before .if2 .left) _ (all .0) (all .1)
+    let here = c .before in
+    let all = read-all (here .loop .inv) (c .loop-test .left) in
+    word-number _ (some (here .before)) (here .before .if2 .left) _ (all .0) (all .1)
 
 pub hex-word-spec : {M : Type 1} → statement M
 hex-word-spec =

@@ -1,14 +1,16 @@
--- `tagged` is the definition's tag and words. The loop keeps the words that it has stored, in front of those that are left.
-use mathlib.Core.Path.{_≡_, sym, _∙_}
+-- `tagged` is the definition's tag and words. The loop keeps the words that it has stored, in front of those that are
+-- left.
+use mathlib.Core.Path.{sym}
 use mathlib.Core.List.{List}
-use Prim.Native.Nat.{ℕ, _+_, _-_, _≤_}
+use Prim.Native.Nat.{ℕ, _+_, _-_, _≤_, _<_}
 use native.Mathlib.Nat.{add-sub-cancel-left}
 use native.Mathlib.Omega.{arith}
 use borrow.Author.Needs.{needs}
 use lib.ListN.{length, drop, length-drop}
-use Rattle.replay.specs.Lines.{beforeOf}
+use Rattle.replay.specs.Lines.{Before}
 use Rattle.replay.proofs.Cuts.{to-end}
-use Rattle.replay.proofs.Words.{Taken, taken-none, taken-no-space, taken-full, taken-other, taken-more, taken-all}
+use Rattle.replay.proofs.Words.{Taken, taken-none, taken-no-space, taken-all}
+use Rattle.replay.proofs.Words.{Spaced, Behind, taken-full, taken-other, taken-more}
 use Rattle.replay.proofs.Words.{malformed, words-read, none-read}
 use Rattle.replay.proofs.tagged.Statement.{statement}
 use Rattle.replay.proofs.tagged.Tie as tie
@@ -19,42 +21,84 @@ Inv-loop tag rest words₀ at₀ count₀ words at count = Taken rest words₀ w
 abbrev μ-loop : tie.MeasureT-loop
 μ-loop tag rest words₀ at₀ count₀ words at count = length rest - at
 
+-- ---- from place to place
+abbrev start : tie.At-loop Inv-loop μ-loop → tie.Start Inv-loop μ-loop
+start c = c .before .before .before
+
+-- the loop's head, from where a space was seen
+abbrev head : tie.Else1 Inv-loop μ-loop → tie.At-loop Inv-loop μ-loop
+head c = c .before .before .before
+
+-- where there was room for a word, from where the word's end was found, and from where the word was read
+abbrev roomy : tie.After-bytes-before Inv-loop μ-loop → tie.Else2 Inv-loop μ-loop
+roomy c = c .before .before
+
+abbrev ended : tie.After-hex-word Inv-loop μ-loop → tie.After-bytes-before Inv-loop μ-loop
+ended c = c .before .before
+
+abbrev rest-at : tie.At-loop Inv-loop μ-loop → List ℕ
+rest-at c = start c .args .rest .now
+
+-- ---- what is known there
+spaced : (c : tie.Else1 Inv-loop μ-loop)
+    → let here = head c in
+    Spaced (rest-at here) (start here .args .words .now) (here .loop .words) (here .loop .at) (here .loop .count)
+spaced c = record { taken = head c .loop .inv; more = c .before .before .loop-test .taken; space = c .if1 .left }
+
+free : (c : tie.Else2 Inv-loop μ-loop) → let at = head (c .before) .loop in at .count < length (at .words)
+free c =
+    let room = head (c .before) .loop .inv .room in
+    let other = c .if2 .left in
+    omega arith
+
 -- the word that begins behind the space ends within the line
-abbrev at-word : tie.After-bytes-before Inv-loop μ-loop → ℕ
-at-word c = c .before .before .before .before .before .before .loop .at + 1
+found : (c : tie.After-bytes-before Inv-loop μ-loop)
+    → let here = head (roomy c .before) in
+    Before (drop (here .loop .at + 1) (rest-at here)) 32 (c .bytes-before .result)
+found c = simp to-end at (c .bytes-before .ensures)
 
-abbrev rest-of : tie.After-bytes-before Inv-loop μ-loop → List ℕ
-rest-of c = c .before .before .before .before .before .before .before .before .before .args .rest .now
+within : (c : tie.After-bytes-before Inv-loop μ-loop)
+    → let here = head (roomy c .before) in
+    here .loop .at + 1 + c .bytes-before .result ≤ length (rest-at here)
+within c =
+    let here = head (roomy c .before) in
+    omega (arith, found c .within, length-drop (here .loop .at + 1) (rest-at here))
 
-word-end : (c : tie.After-bytes-before Inv-loop μ-loop)
-    → (at-word c + c .bytes-before .result ≤ length (rest-of c))
-    × (c .bytes-before .result ≡ beforeOf 32 (drop (at-word c) (rest-of c)))
-word-end c =
-    let found = simp to-end at (c .bytes-before .ensures) in
-    (omega (arith, found .within, length-drop (at-word c) (rest-of c)), found .first)
+behind : (c : tie.After-hex-word Inv-loop μ-loop)
+    → let here = head (roomy (ended c) .before) in
+    Behind (rest-at here) (here .loop .at) (ended c .bytes-before .result) (c .hex-word .result)
+behind c =
+    record {
+      within = within (ended c);
+      mark = found (ended c) .first;
+      reading = rw add-sub-cancel-left at (c .hex-word .ensures);
+    }
 
+-- ---- the loop begins
 loop-holds : tie.Need-loop-holds Inv-loop μ-loop
 loop-holds c = taken-none _ _
 
 shared-slice-read-if1 : tie.Need-shared-slice-read-if1 Inv-loop μ-loop
 shared-slice-read-if1 c = search needs
 
+-- ---- no space
 same-length : tie.Need-same-length Inv-loop μ-loop
 same-length c = c .before .before .before .loop .inv .same
 
 returns : tie.Need-returns Inv-loop μ-loop
 returns c =
-    let t = c .before .before .before .loop .inv in
-    malformed _ _ _ (none-read _ _ _ (taken-no-space t (c .before .before .loop-test .taken) (c .if1 .taken)))
+    let turn = c .before .before in
+    let none = taken-no-space (turn .before .loop .inv) (turn .loop-test .taken) (c .if1 .taken) in
+    malformed _ _ _ (none-read _ _ _ none)
 
+-- ---- no room
 same-length-2 : tie.Need-same-length-2 Inv-loop μ-loop
-same-length-2 c = c .before .before .before .before .loop .inv .same
+same-length-2 c = spaced (c .before) .taken .same
 
 returns-2 : tie.Need-returns-2 Inv-loop μ-loop
-returns-2 c =
-    let t = c .before .before .before .before .loop .inv in
-    malformed _ _ _ (sym (taken-full t (c .before .before .before .loop-test .taken) (c .before .if1 .left) _ (c .if2 .taken)))
+returns-2 c = malformed _ _ _ (sym (taken-full (spaced (c .before)) _ (c .if2 .taken)))
 
+-- ---- the word
 add-start : tie.Need-add-start Inv-loop μ-loop
 add-start c = search needs
 
@@ -71,7 +115,7 @@ bytes-before-requires : tie.Need-bytes-before-requires Inv-loop μ-loop
 bytes-before-requires c κs = search needs
 
 add-end : tie.Need-add-end Inv-loop μ-loop
-add-end c = omega (arith, word-end c .0)
+add-end c = omega (arith, within c)
 
 sub-hex-word : tie.Need-sub-hex-word Inv-loop μ-loop
 sub-hex-word c = search needs
@@ -80,7 +124,7 @@ part-hex-word-start : tie.Need-part-hex-word-start Inv-loop μ-loop
 part-hex-word-start c = search needs
 
 part-hex-word-end : tie.Need-part-hex-word-end Inv-loop μ-loop
-part-hex-word-end c = omega (arith, word-end c .0)
+part-hex-word-end c = omega (arith, within c)
 
 hex-word-requires : tie.Need-hex-word-requires Inv-loop μ-loop
 hex-word-requires c κs = search needs
@@ -91,50 +135,39 @@ enum-known-number c = search needs
 enum-told : tie.Need-enum-told Inv-loop μ-loop
 enum-told c = search needs
 
+-- ---- no word
 same-length-3 : tie.Need-same-length-3 Inv-loop μ-loop
-same-length-3 c = c .before .before .before .before .before .before .before .before .before .before .loop .inv .same
+same-length-3 c = spaced (roomy (ended (c .before .before)) .before) .taken .same
 
 returns-3 : tie.Need-returns-3 Inv-loop μ-loop
 returns-3 c =
-    let t = c .before .before .before .before .before .before .before .before .before .before .loop .inv in
-    let space = c .before .before .before .before .before .before .before .if1 .left in
-    let turn = c .before .before .before .before .before .before .before .before .before .loop-test .taken in
-    let read = rw add-sub-cancel-left at (c .before .before .hex-word .ensures) in
-    let cut = word-end (c .before .before .before .before) .1 in
-    malformed _ _ _ (none-read _ _ _ (taken-other t turn space _ cut (sym read ∙ c .enum-told .given .1)))
+    let word = c .before .before in
+    let turn = spaced (roomy (ended word) .before) in
+    malformed _ _ _ (none-read _ _ _ (taken-other turn (behind word) (c .enum-told .given .1)))
 
+-- ---- one word more
 mul-words : tie.Need-mul-words Inv-loop μ-loop
 mul-words c =
-    let t = c .before .before .before .before .before .before .before .before .before .before .before .loop .inv in
-    let room = c .before .before .before .before .before .before .before .if2 .left in
-    let good = c .before .before .before .before .before .before .before .before .before .before .before .before .before .before .good in
-    omega arith
+    let room = roomy (ended (c .before .before .before)) in
+    let lent = start (head (room .before)) .good in
+    omega (arith, free room, spaced (room .before) .taken .same)
 
 slice-write-words : tie.Need-slice-write-words Inv-loop μ-loop
-slice-write-words c =
-    let t = c .before .before .before .before .before .before .before .before .before .before .before .loop .inv in
-    let room = c .before .before .before .before .before .before .before .if2 .left in
-    omega arith
+slice-write-words c = omega (arith, free (roomy (ended (c .before .before .before))))
 
 add-count : tie.Need-add-count Inv-loop μ-loop
-add-count c =
-    let t = c .before .before .before .before .before .before .before .before .before .before .before .loop .inv in
-    let room = c .before .before .before .before .before .before .before .if2 .left in
-    omega arith
+add-count c = omega (arith, free (roomy (ended (c .before .before .before))))
 
 loop-less : tie.Need-loop-less Inv-loop μ-loop
 loop-less c = omega arith
 
 loop-again : tie.Need-loop-again Inv-loop μ-loop
 loop-again c =
-    let t = c .before .before .before .before .before .before .before .before .before .before .before .loop .inv in
-    let space = c .before .before .before .before .before .before .before .before .if1 .left in
-    let turn = c .before .before .before .before .before .before .before .before .before .before .loop-test .taken in
-    let room = c .before .before .before .before .before .before .before .if2 .left in
-    let read = rw add-sub-cancel-left at (c .before .before .before .hex-word .ensures) in
-    let cut = word-end (c .before .before .before .before .before) in
-    taken-more t turn space _ (cut .1) _ (sym read ∙ c .before .number .given .1) (cut .0) (omega arith)
+    let word = c .before .before .before in
+    let room = roomy (ended word) in
+    taken-more (spaced (room .before)) (behind word) _ (c .before .number .given .1) (free room)
 
+-- ---- the end of the line
 same-length-4 : tie.Need-same-length-4 Inv-loop μ-loop
 same-length-4 c = c .before .loop .inv .same
 

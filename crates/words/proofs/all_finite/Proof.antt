@@ -1,11 +1,10 @@
 -- `words::all_finite` meets its contract: the first word that is not a finite number's decides. Assumes nothing.
-use mathlib.Core.Path.{_≡_, refl, sym, ap, _∙_}
-use mathlib.Core.List.{List, _++_}
-use Prim.Native.Nat.{ℕ, _+_, _-_, _*_, _≤_, _<_}
+use mathlib.Core.Path.{_≡_, sym, ap, _∙_}
+use mathlib.Core.List.{List}
+use Prim.Native.Nat.{ℕ, _-_, _*_, _≤_, _<_}
 use native.Mathlib.Omega.{arith}
 use borrow.Author.Needs.{needs}
 use mathlib.Core.Bool.{Bool, true}
-use lib.ListN.{length}
 use lib.Ieee.{binary32, ofBits}
 use lib.Ieee.Scale.{finite}
 use borrow.Author.Tests.{not-true, not-false}
@@ -27,6 +26,20 @@ seen : (bs : List ℕ) (i n w : ℕ) (r : Bool) → i < n → w ≡ wordAt bs (i
     → r ≡ finiteAt (floatsIn bs n) i
 seen bs i n w r h p q = q ∙ ap (λ (v : ℕ). finite (ofBits binary32 v)) p ∙ finite-at bs n i h
 
+-- ---- from place to place, and what the test of a word says there
+abbrev turn : tie.After-is-finite Inv-loop μ-loop → tie.In-loop Inv-loop μ-loop
+turn c = c .before .before
+
+abbrev head : tie.After-is-finite Inv-loop μ-loop → tie.At-loop Inv-loop μ-loop
+head c = turn c .before
+
+tested : (c : tie.After-is-finite Inv-loop μ-loop)
+    → let a = head c .before .before .args in
+    c .is-finite .result ≡ finiteAt (floatsIn (a .bytes .now) (a .count)) (head c .loop .i)
+tested c =
+    seen _ (head c .loop .i) _ _ _ (turn c .loop-test .taken) (c .before .word .ensures) (c .is-finite .ensures)
+
+-- ---- the needs
 loop-holds : tie.Need-loop-holds Inv-loop μ-loop
 loop-holds c = (omega arith, all-none _)
 
@@ -42,12 +55,9 @@ is-finite-requires c κs = search needs
 returns : tie.Need-returns Inv-loop μ-loop
 unfolding allFinite
 returns c =
-    let at-is-finite = c .before in
-    let at-word = at-is-finite .before in
-    let at-loop-test = at-word .before in
-    let at-loop = at-loop-test .before in
-    rw floats-length (sym (all-stop _ (at-loop .loop .i) _ (at-loop-test .loop-test .taken) (sym (seen _ (at-loop .loop .i) _ _ _
-    (at-loop-test .loop-test .taken) (at-word .word .ensures) (at-is-finite .is-finite .ensures)) ∙ not-true _ (c .if1 .taken))))
+    let test = c .before in
+    let unsound = sym (tested test) ∙ not-true _ (c .if1 .taken) in
+    rw floats-length (sym (all-stop _ (head test .loop .i) _ (turn test .loop-test .taken) unsound))
 
 add-i : tie.Need-add-i Inv-loop μ-loop
 add-i c = omega arith
@@ -57,14 +67,8 @@ loop-less c = omega arith
 
 loop-again : tie.Need-loop-again Inv-loop μ-loop
 loop-again c =
-    let at-is-finite = c .before in
-    let at-word = at-is-finite .before in
-    let at-loop-test = at-word .before in
-    let at-loop = at-loop-test .before in (
-      omega arith,
-      all-more _ (at-loop .loop .i) (at-loop .loop .inv .1) (sym (seen _ (at-loop .loop .i) _ _ _ (at-loop-test .loop-test
-          .taken) (at-word .word .ensures) (at-is-finite .is-finite .ensures)) ∙ not-false _ (c .if1 .left)),
-    )
+    let at = head (c .before) .loop in
+    (omega arith, all-more _ (at .i) (at .inv .1) (sym (tested (c .before)) ∙ not-false _ (c .if1 .left)))
 
 returns-2 : tie.Need-returns-2 Inv-loop μ-loop
 unfolding allFinite

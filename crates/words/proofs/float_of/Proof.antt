@@ -1,5 +1,4 @@
 -- `words::float_of` meets its contract: a NaN's pattern gives the NaN, and no other is one. Assumes nothing.
-use mathlib.Core.Path.{sym}
 use borrow.Author.Needs.{needs}
 use lib.Ieee.{ofBits, div}
 use Rattle.words.proofs.Patterns.{nan-pattern, number-pattern}

@@ -1,10 +1,9 @@
 -- `words::put_sizes` meets its contract: after i turns i words are written. Assumes nothing.
-use mathlib.Core.Path.{_≡_, refl, sym, ap, _∙_}
-use mathlib.Core.List.{List, _++_}
-use Prim.Native.Nat.{ℕ, _+_, _-_, _*_, _≤_, _<_}
+use mathlib.Core.Path.{_≡_, refl, _∙_}
+use mathlib.Core.List.{_++_}
+use Prim.Native.Nat.{_+_, _-_, _*_, _≤_}
 use native.Mathlib.Omega.{arith}
-use borrow.Author.Needs.{needs}
-use lib.ListN.{length, drop, length-drop}
+use lib.ListN.{length, drop}
 use Rattle.floats.proofs.Loops.{rest-length}
 use Rattle.words.specs.Words.{wordIn, packed, packedWords}
 use Rattle.words.proofs.Packs.{pack-none, pack-more}

@@ -1,9 +1,8 @@
 -- `words::take_floats` meets its contract: after i turns i words are read. Assumes nothing.
-use mathlib.Core.Path.{_≡_, refl, sym, ap, _∙_}
-use mathlib.Core.List.{List, _++_}
-use Prim.Native.Nat.{ℕ, _+_, _-_, _*_, _≤_, _<_}
+use mathlib.Core.Path.{_≡_, refl}
+use mathlib.Core.List.{_++_}
+use Prim.Native.Nat.{ℕ, _+_, _-_, _*_, _≤_}
 use native.Mathlib.Omega.{arith}
-use borrow.Author.Needs.{needs}
 use lib.ListN.{length, drop, length-set}
 use Rattle.floats.specs.Sums.{tabulate}
 use Rattle.floats.proofs.Loops.{tab-none, tab-more, tab-whole}
@@ -13,7 +12,8 @@ use Rattle.words.proofs.take_floats.Tie as tie
 
 abbrev Inv-loop : tie.InvT-loop
 Inv-loop bytes floats₀ i₀ i-end floats i =
-    (i ≤ length floats₀) × (length floats ≡ length floats₀) × (floats ≡ tabulate (λ (k : ℕ). floatAt bytes (k * 4)) i ++ drop i floats₀)
+    (i ≤ length floats₀) × (length floats ≡ length floats₀)
+    × (floats ≡ tabulate (λ (k : ℕ). floatAt bytes (k * 4)) i ++ drop i floats₀)
 
 abbrev μ-loop : tie.MeasureT-loop
 μ-loop bytes floats₀ i₀ i-end floats i = length floats₀ - i

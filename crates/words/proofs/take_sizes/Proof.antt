@@ -1,9 +1,8 @@
 -- `words::take_sizes` meets its contract: after i turns i words are read. Assumes nothing.
-use mathlib.Core.Path.{_≡_, refl, sym, ap, _∙_}
-use mathlib.Core.List.{List, _++_}
-use Prim.Native.Nat.{ℕ, _+_, _-_, _*_, _≤_, _<_}
+use mathlib.Core.Path.{_≡_, refl}
+use mathlib.Core.List.{_++_}
+use Prim.Native.Nat.{ℕ, _+_, _-_, _*_, _≤_}
 use native.Mathlib.Omega.{arith}
-use borrow.Author.Needs.{needs}
 use lib.ListN.{length, drop, length-set}
 use Rattle.floats.specs.Sums.{tabulate}
 use Rattle.floats.proofs.Loops.{tab-none, tab-more, tab-whole}
@@ -13,7 +12,8 @@ use Rattle.words.proofs.take_sizes.Tie as tie
 
 abbrev Inv-loop : tie.InvT-loop
 Inv-loop bytes from sizes₀ i₀ i-end sizes i =
-    (i ≤ length sizes₀) × (length sizes ≡ length sizes₀) × (sizes ≡ tabulate (λ (k : ℕ). wordAt bytes (from + k * 4)) i ++ drop i sizes₀)
+    (i ≤ length sizes₀) × (length sizes ≡ length sizes₀)
+    × (sizes ≡ tabulate (λ (k : ℕ). wordAt bytes (from + k * 4)) i ++ drop i sizes₀)
 
 abbrev μ-loop : tie.MeasureT-loop
 μ-loop bytes from sizes₀ i₀ i-end sizes i = length sizes₀ - i

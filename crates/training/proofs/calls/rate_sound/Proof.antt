@@ -1,5 +1,5 @@
 -- `training::rate_sound` meets its contract. Assumes nothing.
-use Rattle.training.specs.Step.{rateSound}
+use Rattle.training.specs.Train.{rateSound}
 use borrow.Author.Needs.{needs}
 use Rattle.training.proofs.calls.rate_sound.Statement.{statement}
 use Rattle.training.proofs.calls.rate_sound.Tie as tie

@@ -4,6 +4,10 @@ use borrow.Author.Needs.{needs}
 use Rattle.training.proofs.calls.train_step.Statement.{statement}
 use Rattle.training.proofs.calls.train_step.Tie as tie
 
+-- only this line knows how many places lie between
+abbrev trained : tie.After-slice-known5 → tie.After-train
+trained c = c .before .before .before .before
+
 train-requires : tie.Need-train-requires
 train-requires c κs = search needs
 
@@ -24,8 +28,8 @@ same-length-3 c = search needs
 
 returns : tie.Need-returns
 returns c =
-    let at-train = c .before .before .before .before .before .before .before .before in
-    one-done _ _ _ _ _ _ _ _ _ _ _ _ _ _ (at-train .train .ensures) (c .enum-told .given .1)
+    let run = trained (c .before .before .before .before) in
+    one-done _ _ _ _ _ _ _ _ _ _ _ _ _ _ (run .train .ensures) (c .enum-told .given .1)
 
 same-length-4 : tie.Need-same-length-4
 same-length-4 c = search needs
@@ -38,8 +42,8 @@ same-length-6 c = search needs
 
 returns-2 : tie.Need-returns-2
 returns-2 c =
-    let at-train = c .before .before .before .before .before .before .before .before .before in
-    one-stopped _ _ _ _ _ _ _ _ _ _ _ _ _ _ (at-train .train .ensures) (c .before .training .given .1)
+    let run = trained (c .before .before .before .before .before) in
+    one-stopped _ _ _ _ _ _ _ _ _ _ _ _ _ _ (run .train .ensures) (c .before .training .given .1)
 
 pub train-step-spec : {M : Type 1} → statement M
 train-step-spec =

@@ -1,7 +1,6 @@
 -- `training::training_fault` meets its contract: the batch, and then the rate. Assumes nothing.
 use mathlib.Core.Path.{_≡_, sym, _∙_}
-use Rattle.rows.proofs.Batches.{or-first}
-use Rattle.training.specs.Step.{trainingFault}
+use Rattle.refusals.proofs.Firsts.{then-first}
 use borrow.Author.Needs.{needs}
 use Rattle.training.proofs.calls.training_fault.Statement.{statement}
 use Rattle.training.proofs.calls.training_fault.Tie as tie
@@ -22,20 +21,17 @@ batch-fault-requires : tie.Need-batch-fault-requires
 batch-fault-requires c κs = search needs
 
 returns : tie.Need-returns
-unfolding trainingFault
-returns c = rw (← c .before .batch-fault .ensures) (or-first _ _ (c .if1 .taken))
+returns c = rw (← c .before .batch-fault .ensures) (then-first _ _ (c .if1 .taken))
 
 rate-sound-requires : tie.Need-rate-sound-requires
 rate-sound-requires c κs = search needs
 
 returns-2 : tie.Need-returns-2
-unfolding trainingFault
 returns-2 c =
     let at-batch-fault = c .before .before .before in
     rw (← at-batch-fault .batch-fault .ensures, c .before .before .if1 .left, ← c .before .rate-sound .ensures, c .if2 .taken)
 
 returns-3 : tie.Need-returns-3
-unfolding trainingFault
 returns-3 c =
     let at-batch-fault = c .before .before .before in
     rw (← at-batch-fault .batch-fault .ensures, c .before .before .if1 .left, ← c .before .rate-sound .ensures, c .if2 .left)

@@ -1,0 +1,2 @@
+pub mod Accumulate
+pub mod Calls

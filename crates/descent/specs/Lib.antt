@@ -1,3 +1,0 @@
-pub mod Accumulate
-pub mod Calls
-pub mod Steps

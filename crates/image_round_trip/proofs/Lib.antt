@@ -1,0 +1,3 @@
+pub mod FromWriter
+pub mod FromReader
+pub mod RoundTrip

@@ -1,0 +1,12 @@
+-- "Each public call's statement determines its answer and the final contents of all memory lent to it .. that any two
+-- outcomes allowed by it coincide is itself shown" (document 01). Assumes nothing.
+use mathlib.Core.Path.{sym, _∙_}
+use Rattle.floats.proofs.Determined.{Determined}
+use Rattle.image_writing.proofs.write as write
+use Rattle.image_writing.proofs.write.Reads as write-reads
+
+-- the answer and the image
+pub write-determined : Determined write.ended write-reads.Post
+write-determined κs a r r′ w w′ p q =
+    let image = p .image ∙ sym (q .image) in
+    (p .answer ∙ sym (q .answer), (λ i. (tt, (tt, (tt, (image i, tt))))))

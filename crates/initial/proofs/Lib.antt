@@ -1,3 +1,0 @@
-pub mod Draws
-pub mod Edges
-pub mod Parts

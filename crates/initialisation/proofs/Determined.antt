@@ -1,0 +1,12 @@
+-- "Each public call's statement determines its answer and the final contents of all memory lent to it .. that any two outcomes
+-- allowed by it coincide is itself shown" (document 01). Assumes nothing.
+use mathlib.Core.Path.{sym, _∙_}
+use Rattle.floats.proofs.Determined.{Determined}
+use Rattle.initialisation.proofs.initialise as initialise
+use Rattle.initialisation.proofs.initialise.Reads as initialise-reads
+
+-- the answer and the model
+pub initialise-determined : Determined initialise.ended initialise-reads.Post
+initialise-determined κs a r r′ w w′ p q =
+    let model = p .model ∙ sym (q .model) in
+    (p .answer ∙ sym (q .answer), (λ i. (tt, (tt, (tt, (model i, tt))))))

@@ -1,0 +1,52 @@
+-- A network and its layers. A network knows how many parameters an edge has, the activation, where `dot` starts, and a curve for
+-- each layer; a layer's definitions are over the one record that the network shows it. So a statement about another start of
+-- `dot`, another exponential or another grid for each layer is one about two networks and the same words. Definitions only.
+use Prim.Native.Nat.{ℕ, _+_}
+use lib.Ieee.{Float}
+use Rattle.floats.specs.Binary32.{zero32}
+use Rattle.spline.specs.declared.Grid.{Grid}
+use Rattle.spline.specs.Spline.{valueOf, slopeOf}
+use Rattle.spline.specs.Activation.{siluOf, siluDerivativeOf}
+use Rattle.layers.specs.Basis.{Basis}
+
+-- a layer's cubic basis values and their slopes, by index
+pub record Curve : Type 0 where
+  pub value : ℕ → Float → Float
+  pub slope : ℕ → Float → Float
+
+pub record Net : Type 0 where
+  -- "g + 3 coefficients" an edge, "in × out × (g + 5)" parameters a layer
+  pub coefficients : ℕ
+  pub stride : ℕ
+  -- by the layer's number
+  pub curve : ℕ → Curve
+  pub silu : Float → Float
+  pub siluSlope : Float → Float
+  -- "`dot` starts at +0.0 here"
+  pub start : Float
+
+-- the network as layer l sees it
+abbrev pub basisAt : Net → ℕ → Basis
+basisAt N l = record {
+  coefficients = N .coefficients;
+  stride = N .stride;
+  value = N .curve l .value;
+  slope = N .curve l .slope;
+  silu = N .silu;
+  siluSlope = N .siluSlope;
+  start = N .start;
+}
+
+-- one grid for all layers, and a layer of that network
+abbrev pub netOf : Grid → Net
+netOf g = record {
+  coefficients = g .intervals + 3;
+  stride = g .intervals + 5;
+  curve = λ l. record { value = λ i x. valueOf g 3 i x; slope = λ i x. slopeOf g i x };
+  silu = siluOf;
+  siluSlope = siluDerivativeOf;
+  start = zero32;
+}
+
+abbrev pub basisOf : Grid → Basis
+basisOf g = basisAt (netOf g) 0

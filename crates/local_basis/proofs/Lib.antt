@@ -1,0 +1,11 @@
+pub mod Meshes
+pub mod Knots
+pub mod Apart
+pub mod Triangles
+pub mod Found
+pub mod Covered
+pub mod Moved
+pub mod Valued
+pub mod Sloped
+pub mod Standing
+pub mod Dots

@@ -1,0 +1,18 @@
+-- A grid's mesh is what every function on a mesh asks for. Assumes nothing.
+use mathlib.Core.Path.{_≡_, refl, sym, _∙_}
+use mathlib.Core.Bool.{true}
+use Prim.Native.Nat.{_≤_}
+use Rattle.spline.specs.declared.Grid.{Grid}
+use Rattle.local_basis.specs.declared.Mesh.{Mesh}
+use Rattle.local_basis.specs.Meshes.{calmOf, meshOf, Meshed}
+
+pub meshed : {g : Grid} → g .intervals ≤ 250000 → Meshed (meshOf g)
+meshed h = record { intervals = h; width = refl; calm = refl }
+
+-- the same of an answer of `mesh_of`
+pub meshed-as : {g : Grid} {m : Mesh} → m ≡ meshOf g → g .intervals ≤ 250000 → Meshed m
+meshed-as e h = rw e (meshed h)
+
+-- a mesh that was tested calm is that of a calm grid
+pub calm-grid : {m : Mesh} → Meshed m → m .calm ≡ true → calmOf (m .grid) ≡ true
+calm-grid p e = sym (p .calm) ∙ e

@@ -1,0 +1,2 @@
+pub mod Meshes
+pub mod Fours

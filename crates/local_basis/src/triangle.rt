@@ -1,0 +1,92 @@
+// The triangle of Cox and de Boor on the six knots about an input: each value of a degree is worked out once.
+ghost use mathlib.Core.Path.{_≡_};
+ghost use Prim.Native.Nat.{_-_, _≤_};
+ghost use Rattle.local_basis.specs.Fours.{SquaresAt, CubesAt, RisesAt};
+ghost use Rattle.local_basis.specs.Meshes.{Meshed};
+use crate::Four;
+use crate::Mesh;
+use crate::search::knot_at;
+use spline::portion;
+
+// i - n, or 0.
+fn less(i: usize, n: usize) -> usize
+    ensures { λ r. ⌜ r ≡ i - n ⌝ }
+{
+    if i < n { 0 } else { i - n }
+}
+
+// The six knots about an input, and the three values of degree 2 there.
+struct Squares {
+    k1: f32,
+    k2: f32,
+    k3: f32,
+    k4: f32,
+    k5: f32,
+    k6: f32,
+    low: f32,
+    middle: f32,
+    high: f32,
+}
+
+// For an x from knot `at`, which is the third, up to the next.
+fn squares_of(mesh: Mesh, x: f32, at: usize) -> Squares
+    requires { ⌜ (at ≤ 260000) × Meshed mesh ⌝ }
+    ensures { λ r. ⌜ SquaresAt (mesh .grid) x at r ⌝ }
+{
+    let k1 = knot_at(mesh, less(at, 2));
+    let k2 = knot_at(mesh, less(at, 1));
+    let k3 = knot_at(mesh, at);
+    let k4 = knot_at(mesh, at + 1);
+    let k5 = knot_at(mesh, at + 2);
+    let k6 = knot_at(mesh, at + 3);
+    let linear_low = portion(k4 - x, 1.0, k4 - k3);
+    let linear_high = portion(x - k3, 1.0, k4 - k3);
+    Squares {
+        k1,
+        k2,
+        k3,
+        k4,
+        k5,
+        k6,
+        low: portion(k4 - x, linear_low, k4 - k2),
+        middle: portion(x - k2, linear_low, k4 - k2) + portion(k5 - x, linear_high, k5 - k3),
+        high: portion(x - k3, linear_high, k5 - k3),
+    }
+}
+
+// The four values at an x from knot `at` up to the next.
+pub fn cubes(mesh: Mesh, x: f32, at: usize) -> Four
+    requires { ⌜ (at ≤ 260000) × Meshed mesh ⌝ }
+    ensures { λ r. ⌜ CubesAt (mesh .grid) x at r ⌝ }
+{
+    let s = squares_of(mesh, x, at);
+    let a = portion(s.k4 - x, s.low, s.k4 - s.k1);
+    let b = portion(x - s.k1, s.low, s.k4 - s.k1) + portion(s.k5 - x, s.middle, s.k5 - s.k2);
+    let c = portion(x - s.k2, s.middle, s.k5 - s.k2) + portion(s.k6 - x, s.high, s.k6 - s.k3);
+    let d = portion(x - s.k3, s.high, s.k6 - s.k3);
+    Four {
+        start: less(at, 3),
+        first: a,
+        second: b,
+        third: c,
+        fourth: d,
+    }
+}
+
+// The four slopes there.
+pub fn rises(mesh: Mesh, x: f32, at: usize) -> Four
+    requires { ⌜ (at ≤ 260000) × Meshed mesh ⌝ }
+    ensures { λ r. ⌜ RisesAt (mesh .grid) x at r ⌝ }
+{
+    let s = squares_of(mesh, x, at);
+    let rise_low = portion(3.0, s.low, s.k4 - s.k1);
+    let rise_middle = portion(3.0, s.middle, s.k5 - s.k2);
+    let rise_high = portion(3.0, s.high, s.k6 - s.k3);
+    Four {
+        start: less(at, 3),
+        first: 0.0 - rise_low,
+        second: rise_low - rise_middle,
+        third: rise_middle - rise_high,
+        fourth: rise_high - 0.0,
+    }
+}

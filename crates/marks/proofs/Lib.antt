@@ -1,4 +1,0 @@
-pub mod Marking
-pub mod Fours
-pub mod Layers
-pub mod Rows

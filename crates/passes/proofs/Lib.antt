@@ -1,0 +1,5 @@
+pub mod Passes
+pub mod Walks
+pub mod Rows
+pub mod EachRow
+pub mod Admitted

@@ -1,0 +1,5 @@
+pub mod Rows
+pub mod Slots
+pub mod Spans
+pub mod Ups
+pub mod Values

@@ -1,4 +1,0 @@
-pub mod Rows
-pub mod Clean
-pub mod Fours
-pub mod Inputs

@@ -1,0 +1,3 @@
+pub mod Marking
+pub mod Fours
+pub mod Layers

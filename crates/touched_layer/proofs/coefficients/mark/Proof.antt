@@ -1,0 +1,12 @@
+-- `touched_layer::mark` meets its contract. Assumes nothing.
+use Rattle.touched_layer.proofs.coefficients.mark.Statement.{statement}
+use Rattle.touched_layer.proofs.coefficients.mark.Tie as tie
+
+returns : tie.Need-returns
+returns c = rw (c .if1 .taken)
+
+returns-2 : tie.Need-returns-2
+returns-2 c = rw (c .if1 .left)
+
+pub mark-spec : {M : Type 1} → statement M
+mark-spec = tie.close (tie.spec returns returns-2)

@@ -1,0 +1,55 @@
+-- `touched_layer::mark_coefficients` meets its contract, by whichever of the two. Assumes nothing.
+use mathlib.Core.Path.{_∙_}
+use Rattle.touched_layer.specs.Touched.{touches}
+use Rattle.touched_layer.proofs.Fours.{four-marked}
+use borrow.Author.Needs.{needs}
+use Rattle.touched_layer.proofs.coefficients.mark_coefficients.Statement.{statement}
+use Rattle.touched_layer.proofs.coefficients.mark_coefficients.Tie as tie
+
+-- ---- from place to place: only these lines know how many places lie between
+abbrev entry : tie.Then1 → tie.Start
+entry c = c .before .before
+
+abbrev by-four : tie.After-slice-known2 → tie.After-mark-four
+by-four c = c .before .before
+
+abbrev valued : tie.After-mark-four → tie.After-values-at
+valued c = c .before .before
+
+-- ---- the needs
+values-at-requires : tie.Need-values-at-requires
+values-at-requires c κs = (entry c .pre .0, c .if1 .taken)
+
+mark-four-requires : tie.Need-mark-four-requires
+mark-four-requires c κs = search needs
+
+mark-plain-requires : tie.Need-mark-plain-requires
+mark-plain-requires c κs = search needs
+
+same-length : tie.Need-same-length
+same-length c = search needs
+
+returns : tie.Need-returns
+unfolding touches
+returns c =
+    let m = by-four c in
+    let v = valued m in
+    m .mark-four .ensures ∙ four-marked (v .values-at .ensures) _ (entry (v .before) .pre .1)
+
+same-length-2 : tie.Need-same-length-2
+same-length-2 c = search needs
+
+returns-2 : tie.Need-returns-2
+returns-2 c = search needs
+
+pub mark-coefficients-spec : {M : Type 1} → statement M
+mark-coefficients-spec =
+    tie.close
+    (tie.spec
+    values-at-requires
+    mark-four-requires
+    mark-plain-requires
+    same-length
+    returns
+    same-length-2
+    returns-2)

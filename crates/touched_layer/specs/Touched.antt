@@ -1,0 +1,32 @@
+-- Which parameters a layer touches, in the flat order: what the visit map is made of (document 01, "Visit map").
+-- Definitions only.
+use Prim.Native.Nat.{ℕ}
+use mathlib.Core.Bool.{Bool, true}
+use mathlib.Core.List.{List, _∷_}
+use lib.ListN.{length}
+use lib.Ieee.{Float, ne}
+use Rattle.floats.specs.Binary32.{zero32}
+use Rattle.floats.specs.Sums.{tabulate, flatTo, at}
+use Rattle.layers.specs.Basis.{Basis}
+
+-- "its basis value is not zero", by the comparison of f32: -0.0 is zero, an infinity and a NaN are not
+unfoldable pub touches : Basis → ℕ → Float → Bool
+touches B k x = ne (B .value k x) zero32
+
+-- an edge that reads x: both weights, then the coefficients
+unfoldable pub edgeTouched : Basis → Float → List Bool
+edgeTouched B x = true ∷ true ∷ tabulate (λ (k : ℕ). touches B k x) (B .coefficients)
+
+-- "edges output by output, input by input": one output, then a layer of n outputs, that reads xs
+abbrev pub inputTouched : Basis → List Float → ℕ → List Bool
+inputTouched B xs i = edgeTouched B (at xs i)
+
+unfoldable pub nodeTouched : Basis → List Float → List Bool
+nodeTouched B xs = flatTo (inputTouched B xs) (length xs)
+
+unfoldable pub layerTouched : Basis → List Float → ℕ → List Bool
+layerTouched B xs n = flatTo (λ (o : ℕ). nodeTouched B xs) n
+
+-- n bytes 0
+abbrev pub blank : ℕ → List ℕ
+blank n = tabulate (λ (p : ℕ). 0) n

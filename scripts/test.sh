@@ -6,8 +6,8 @@ cd "$(dirname "$0")/.."
 
 log=$(mktemp)
 trap 'rm -f "$log"' EXIT
-# rt waits for a whole batch of proofs before it starts the next: one more than there are processors fills the wait
-export RT_JOBS=${RT_JOBS:-$(($(nproc) + 1))}
+# rt waits for a whole batch of proofs before it starts the next: eight at a time keep two processors busy (11 GB at most)
+export RT_JOBS=${RT_JOBS:-8}
 rt fmt --check
 rt ci | tee "$log"
 oracle/quick.sh

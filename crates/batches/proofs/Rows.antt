@@ -12,8 +12,8 @@ use lib.Ieee.{Float}
 use borrow.Author.Tests.{eq-eqb, ne-eqb, eqb-true, eqb-false, leb-true, not-true}
 use Rattle.refusals.specs.Refusals.{_otherwise_, _then_}
 use Rattle.refusals.proofs.Firsts.{both-pass, test-passes, first-clear}
-use Rattle.batches.specs.Batch.{rowsIn, rowAt, rowFault, rowFaultAt, rowsFault, batchFault}
-use Rattle.batches.specs.Sound.{SoundBatch}
+use Rattle.batches.specs.Batch.{rowsIn, rowAt, rowFault, rowsFault, batchFault}
+use Rattle.batches.specs.Sound.{rowFaultAt, SoundBatch}
 
 -- ---- how many rows
 pub rows-whole : (n w : ℕ) → n % w ≡ 0 → n / w ≡ rowsIn n w

@@ -1,5 +1,5 @@
--- A flat batch: "stands for rows of the configured width; if the length is no multiple, the last row is short" (document
--- 01), and the checks that calls make of its rows. Definitions only.
+-- R5.1, R5.2: a flat batch stands for rows of a width, of which the last may be short; R5.3, R5.4: the checks that
+-- calls make of its rows. Definitions only.
 use Prim.Native.Nat.{ℕ, _+_, _*_, _/_, _%_}
 use mathlib.Core.Bool.{cond, not}
 use mathlib.Core.List.{List}
@@ -9,25 +9,23 @@ use lib.Ieee.{Float}
 use Rattle.floats.specs.Sums.{allFinite}
 use Rattle.refusals.specs.Refusals.{_otherwise_, _then_, firstTo}
 
--- how many rows of a width stand in n numbers, a short last one counted
+-- R5.2: how many rows of a width stand in n numbers, a short last one counted
 unfoldable pub rowsIn : ℕ → ℕ → ℕ
 rowsIn n w = n / w + cond (eqb (n % w) 0) 0 1
 
+-- R5.1: row r
 abbrev pub rowAt : List Float → ℕ → ℕ → List Float
 rowAt xs w r = take w (drop (r * w) xs)
 
--- "14, 15: input row of wrong width; input not finite", and for targets 16, 17: the refusal of one row
+-- R5.3: the refusal of one row: its width, then its numbers; 14, 15 of inputs, 16, 17 of targets
 unfoldable pub rowFault : ℕ → ℕ → ℕ → List Float → ℕ
 rowFault width notWide notFinite xs = eqb (length xs) width otherwise notWide then allFinite xs otherwise notFinite
 
--- "row by row (14 before 15)"
-abbrev pub rowFaultAt : ℕ → ℕ → ℕ → List Float → ℕ → ℕ
-rowFaultAt w notWide notFinite xs r = rowFault w notWide notFinite (rowAt xs w r)
-
+-- R5.3: row by row
 unfoldable pub rowsFault : ℕ → ℕ → ℕ → List Float → ℕ
-rowsFault w notWide notFinite xs = firstTo (rowFaultAt w notWide notFinite xs) (rowsIn (length xs) w)
+rowsFault w notWide notFinite xs = firstTo (λ (r : ℕ). rowFault w notWide notFinite (rowAt xs w r)) (rowsIn (length xs) w)
 
--- "12, 13, inputs row by row (14 before 15), targets row by row (16 before 17), 18"
+-- R5.4: 12, row counts that differ; 13, no rows; all inputs, then all targets; 18, more than 16,777,216 target values
 unfoldable pub batchFault : ℕ → ℕ → List Float → List Float → ℕ
 batchFault w v xs ts =
     eqb (rowsIn (length xs) w) (rowsIn (length ts) v) otherwise 12

@@ -4,7 +4,11 @@ use Prim.Native.Nat.{ℕ, _*_, _≤_, _<_}
 use mathlib.Core.List.{List}
 use lib.ListN.{length}
 use lib.Ieee.{Float}
-use Rattle.batches.specs.Batch.{rowsIn, rowFaultAt}
+use Rattle.batches.specs.Batch.{rowsIn, rowAt, rowFault}
+
+-- the refusal of row r
+abbrev pub rowFaultAt : ℕ → ℕ → ℕ → List Float → ℕ → ℕ
+rowFaultAt w notWide notFinite xs r = rowFault w notWide notFinite (rowAt xs w r)
 
 pub record SoundBatch (w v : ℕ) (xs ts : List Float) : Type 0 where
   pub sameRows : rowsIn (length xs) w ≡ rowsIn (length ts) v

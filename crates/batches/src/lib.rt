@@ -31,13 +31,14 @@ pub fn row_fault(xs: &[f32], width: usize, narrow: u32, wild: u32) -> u32
     requires { ⌜ 0 < narrow ⌝ }
     ensures { λ r. ⌜ r ≡ rowFault width narrow wild (now (xs .entry)) ⌝ }
 {
-    if xs.len() == width {
-        if floats::all_finite(xs) {
-            return 0;
-        }
+    let finite = floats::all_finite(xs);
+    if xs.len() != width {
+        return narrow;
+    }
+    if !finite {
         return wild;
     }
-    narrow
+    0
 }
 
 // The first row's fault in a batch, row by row.
@@ -55,7 +56,7 @@ fn rows_fault(xs: &[f32], width: usize, narrow: u32, wild: u32) -> u32
     0
 }
 
-// What loss and training ask of a batch, in document 01's order: 12 to 18, and 0 where it is sound.
+// What loss and training ask of a batch, in the order of R5.4: 12 to 18, and 0 where it is sound.
 pub fn batch_fault(inputs: &[f32], targets: &[f32], w: usize, v: usize) -> u32
     requires { ⌜ (0 < w) × (0 < v) ⌝ }
     ensures { λ r. ⌜ r ≡ batchFault w v (now (inputs .entry)) (now (targets .entry)) ⌝ }

@@ -10,8 +10,12 @@ use Rattle.floats.specs.Binary32.{_⊕_, zero32}
 use Rattle.floats.specs.Sums.{sumFrom, sumTo, tabulate, zeros, at}
 use Rattle.floats.proofs.Loops.{tab-ext, tab-get, tab-drop, tab-kept}
 use Rattle.layers.specs.Basis.{Basis}
-use Rattle.layers.specs.Layer.{inputOf, nodeOf, layerOf}
+use Rattle.layers.specs.Layer.{edgeOf, nodeOf, layerOf}
 use Rattle.fast_forward.specs.Inputs.{withInput, addedInput}
+
+-- input j's edge of an output
+abbrev inputOf : Basis → List Float → List Float → ℕ → Float
+inputOf B ps xs j = edgeOf B (drop (j * B .stride) ps) (at xs j)
 
 -- output o before input j
 abbrev pub soFar : Basis → List Float → List Float → ℕ → ℕ → Float

@@ -5,13 +5,14 @@ ghost use mathlib.Core.Bool.{true};
 ghost use Prim.Native.Nat.{_+_, _≤_};
 ghost use lib.ListN.{length};
 ghost use Rattle.exponential.specs.Steps.{Powers};
-ghost use Rattle.local_basis.specs.Meshes.{Meshed};
+ghost use Rattle.local_basis.specs.Meshes.{Meshed, gridBy, meshBy};
 ghost use Rattle.local_basis.specs.Fours.{fourDot};
 ghost use Rattle.layers.specs.Basis.{Basis};
 ghost use Rattle.layers.specs.Net.{basisOf};
 ghost use Rattle.fast_forward.specs.Inputs.{edgeFour, addedInput, Edges};
 use local_basis::Four;
 use local_basis::Mesh;
+use spline::Grid;
 
 // An edge's coefficients times the four.
 pub fn curve_by(params: &[f32], four: Four) -> f32
@@ -50,7 +51,13 @@ fn add_four(
     let row = w * stride;
     let first = j * stride;
     let silu = spline::silu_by(table, x);
-    let four = local_basis::values_at(mesh, x);
+    let four = local_basis::values_by(
+        mesh.grid.intervals,
+        mesh.grid.lo,
+        mesh.grid.hi,
+        mesh.width,
+        x,
+    );
     for o in 0..n {
         let at = o * row + first;
         outputs[o] = outputs[o] + edge_by(&params[at..], silu, four);
@@ -82,8 +89,14 @@ fn add_plain(
     }
 }
 
+// By whichever of the two. The mesh comes as plain numbers and is made again here, for the reason that stands at
+// `local_basis::values_by`; the two functions on a layer hand them over themselves, since a call between would store a copy.
 pub fn add_input(
-    mesh: Mesh,
+    intervals: usize,
+    lo: f32,
+    hi: f32,
+    width: f32,
+    calm: bool,
     table: &[u32; 256],
     params: &[f32],
     w: usize,
@@ -92,11 +105,13 @@ pub fn add_input(
     outputs: &mut [f32],
     n: usize,
 )
-    requires { ⌜ Meshed mesh × Powers (now table) × Edges (mesh .grid) (now params) w j n
-        × (n ≤ length (now outputs)) ⌝ }
-    ensures { λ _. ⌜ now (outputs .exit) ≡ addedInput (basisOf (mesh .grid)) (now (params .entry)) w j x
+    requires { ⌜ Meshed (meshBy intervals lo hi width calm) × Powers (now table)
+        × Edges (gridBy intervals lo hi) (now params) w j n × (n ≤ length (now outputs)) ⌝ }
+    ensures { λ _. ⌜ now (outputs .exit) ≡ addedInput (basisOf (gridBy intervals lo hi)) (now (params .entry)) w j x
         (now (outputs .entry)) n ⌝ }
 {
+    let grid = Grid { intervals, lo, hi };
+    let mesh = Mesh { grid, width, calm };
     if mesh.calm {
         add_four(mesh, table, params, w, j, x, outputs, n);
     } else {

@@ -31,7 +31,20 @@ pub fn layer_forward(
     floats::clear(outputs, n);
     for j in 0..w {
         let x = inputs[j];
-        add_input(mesh, table, params, w, j, x, outputs, n);
+        add_input(
+            mesh.grid.intervals,
+            mesh.grid.lo,
+            mesh.grid.hi,
+            mesh.width,
+            mesh.calm,
+            table,
+            params,
+            w,
+            j,
+            x,
+            outputs,
+            n,
+        );
     }
 }
 
@@ -55,6 +68,19 @@ pub fn layer_in(
     for j in 0..w {
         let place = from + j;
         let x = work[place];
-        add_input(mesh, table, params, w, j, x, &mut work[to..end], n);
+        add_input(
+            mesh.grid.intervals,
+            mesh.grid.lo,
+            mesh.grid.hi,
+            mesh.width,
+            mesh.calm,
+            table,
+            params,
+            w,
+            j,
+            x,
+            &mut work[to..end],
+            n,
+        );
     }
 }

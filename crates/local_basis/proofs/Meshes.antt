@@ -4,7 +4,7 @@ use mathlib.Core.Bool.{true}
 use Prim.Native.Nat.{_≤_}
 use Rattle.spline.specs.declared.Grid.{Grid}
 use Rattle.local_basis.specs.declared.Mesh.{Mesh}
-use Rattle.local_basis.specs.Meshes.{calmOf, meshOf, Meshed}
+use Rattle.local_basis.specs.Meshes.{calmOf, meshOf, meshBy, Meshed}
 
 pub meshed : {g : Grid} → g .intervals ≤ 250000 → Meshed (meshOf g)
 meshed h = record { intervals = h; width = refl; calm = refl }
@@ -16,3 +16,8 @@ meshed-as e h = rw e (meshed h)
 -- a mesh that was tested calm is that of a calm grid
 pub calm-grid : {m : Mesh} → Meshed m → m .calm ≡ true → calmOf (m .grid) ≡ true
 calm-grid p e = sym (p .calm) ∙ e
+
+-- and is the one that its numbers make
+pub by-numbers : {m : Mesh} → Meshed m → m .calm ≡ true
+    → Meshed (meshBy (m .grid .intervals) (m .grid .lo) (m .grid .hi) (m .width) true)
+by-numbers p e = record { intervals = p .intervals; width = p .width; calm = sym (calm-grid p e) }

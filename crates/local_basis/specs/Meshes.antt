@@ -17,6 +17,13 @@ calmOf g = cond (lt zero32 (widthOf g)) (finite (knotOf g (g .intervals + 6) ⊖
 abbrev pub meshOf : Grid → Mesh
 meshOf g = record { grid = g; width = widthOf g; calm = calmOf g }
 
+-- from plain numbers
+abbrev pub gridBy : ℕ → Float → Float → Grid
+gridBy intervals lo hi = record { intervals = intervals; lo = lo; hi = hi }
+
+abbrev pub meshBy : ℕ → Float → Float → Float → Bool → Mesh
+meshBy intervals lo hi width calm = record { grid = gridBy intervals lo hi; width = width; calm = calm }
+
 -- a mesh of a grid that the library accepts
 pub record Meshed (m : Mesh) : Type 0 where
   pub intervals : m .grid .intervals ≤ 250000

@@ -8,6 +8,7 @@ mod triangle;
 
 pub use fours::slopes_at;
 pub use fours::values_at;
+pub use fours::values_by;
 ghost use mathlib.Core.Path.{_≡_};
 ghost use Prim.Native.Nat.{_≤_};
 ghost use Rattle.local_basis.specs.Meshes.{calmOf, meshOf};

@@ -14,7 +14,8 @@ use Rattle.refusals.specs.Refusals.{_otherwise_, firstTo}
 use Rattle.refusals.proofs.Firsts.{then-first, first-none, first-more, first-stop}
 use Rattle.layers.specs.Net.{Net}
 use Rattle.layers.specs.Widths.{inputWidth, outputWidth}
-use Rattle.batches.specs.Batch.{rowAt, rowFaultAt}
+use Rattle.batches.specs.Batch.{rowAt}
+use Rattle.batches.specs.Sound.{rowFaultAt}
 use Rattle.passes.specs.Pass.{nodesFinite, rowRefusal, rowsOf}
 use Rattle.passes.specs.Turns.{holder}
 use Rattle.passes.proofs.Passes.{Kept}

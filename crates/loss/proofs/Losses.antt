@@ -17,7 +17,7 @@ use Rattle.layers.specs.Net.{Net}
 use Rattle.layers.specs.Widths.{inputWidth, outputWidth}
 use Rattle.batches.specs.Batch.{batchFault}
 use Rattle.batches.specs.Sound.{SoundBatch}
-use Rattle.passes.specs.Pass.{rowsOf}
+use Rattle.passes.specs.Pass.{rowsOf, from11To18}
 use Rattle.passes.proofs.Admitted.{Admitted, swept-end}
 use Rattle.config.specs.declared.Sizes.{Sizes}
 use Rattle.config.specs.Config.{carriedBy, sizesOf}
@@ -27,7 +27,7 @@ use Rattle.loss.specs.declared.Sum.{Sum}
 use Rattle.loss.specs.declared.Sum.the-variants.{Of, Stopped}
 use Rattle.loss.specs.declared.Loss.{Loss}
 use Rattle.loss.specs.declared.Loss.the-variants.{Mean, Refused}
-use Rattle.loss.specs.Loss.{sumAfter, rowsLossFault, meanError, from11To18, lossOf, Lost}
+use Rattle.loss.specs.Loss.{sumAfter, rowsLossFault, meanError, lossOf, Lost}
 use Rattle.loss.specs.Steps.{RowsSummed, refusedBy, LossPast9}
 use Rattle.loss.proofs.Errors.{summed, stopped}
 

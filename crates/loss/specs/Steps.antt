@@ -12,13 +12,13 @@ use Rattle.spline.specs.declared.Grid.{Grid}
 use Rattle.layers.specs.Net.{Net}
 use Rattle.layers.specs.Widths.{inputWidth, outputWidth}
 use Rattle.batches.specs.Sound.{SoundBatch}
-use Rattle.passes.specs.Pass.{rowsOf}
+use Rattle.passes.specs.Pass.{rowsOf, from11To18}
 use Rattle.passes.specs.Turns.{Past, Fits}
 use Rattle.loss.specs.declared.Sum.{Sum}
 use Rattle.loss.specs.declared.Sum.the-variants.{Of, Stopped}
 use Rattle.loss.specs.declared.Loss.{Loss}
 use Rattle.loss.specs.declared.Loss.the-variants.{Refused}
-use Rattle.loss.specs.Loss.{squared, sumAfter, rowsLossFault, meanError, from11To18, lossOf}
+use Rattle.loss.specs.Loss.{squared, sumAfter, rowsLossFault, meanError, lossOf}
 
 -- ---- the running sum as the code holds it
 abbrev pub sumOf : ℕ → Float → Sum

@@ -9,6 +9,7 @@ ghost use Rattle.loss.specs.Loss.{squared, Lost};
 ghost use Rattle.loss.specs.Steps.{addedTo, errorsTo, Summable, RowsSummed, refusedBy, LossPast9};
 use admission::check_work;
 use config::Checked;
+use layer_cursor::Layer;
 use refusals::Refusal;
 use spline::Grid;
 
@@ -99,8 +100,10 @@ fn sum_rows(
     let v = widths[layers];
     let mut sum: f32 = 0.0;
     let table = exponential::scaled_powers();
+    let start = Layer::first(widths, grid);
     for r in 0..rows {
         let number = passes::run_row(
+            start,
             grid,
             &table,
             widths,

@@ -9,7 +9,7 @@ use lib.ListN.{length, take, drop, length-append, length-drop}
 use lib.Seq.{take-at, drop-at, drop-drop}
 use lib.Ieee.{Float}
 use borrow.Author.Tests.{eq-eqb, ne-eqb, eqb-true, eqb-false}
-use Rattle.floats.specs.Sums.{finiteAt, allFinite}
+use Rattle.floats.specs.Sums.{allFinite}
 use Rattle.floats.proofs.Loops.{front, rest, tab-length, all-each}
 use Rattle.local_basis.specs.Fours.{Finite}
 use Rattle.local_basis.proofs.Dots.{finite-drop}
@@ -103,7 +103,7 @@ turn-values B ps l w n a b a' b' r t = go (eqb (l % 2) 0) refl
 -- a model with no parameter that is not finite (11), and a layer's part of it
 pub finite-model : (ps : List Float) → allFinite ps ≡ true → Finite (length ps) ps
 unfolding allFinite
-finite-model ps e = all-each (finiteAt ps) (length ps) e
+finite-model ps e = all-each _ (length ps) e
 
 pub finite-part : (a n : ℕ) (ps : List Float) → Finite (length ps) ps → a + n ≤ length ps → Finite n (take (length ps - a) (drop a ps))
 finite-part a n ps f h = rw (rest a ps) (finite-drop a n (length ps) ps f h)

@@ -12,7 +12,8 @@ use Rattle.floats.specs.Sums.{allTo, allFinite}
 use Rattle.floats.proofs.Loops.{rest, rest-length, all-none, all-more, all-stop}
 use Rattle.spline.specs.declared.Grid.{Grid}
 use Rattle.local_basis.specs.Fours.{Finite}
-use Rattle.local_basis.specs.Meshes.{Meshed}
+use Rattle.local_basis.specs.declared.Mesh.{Mesh}
+use Rattle.local_basis.specs.Meshes.{Meshed, meshOf}
 use Rattle.local_basis.proofs.Meshes.{meshed-as}
 use Rattle.layers.specs.Net.{netOf, basisOf}
 use Rattle.layers.specs.Widths.{widthAt, paramsTo}
@@ -88,14 +89,16 @@ module _ {g : Grid} {ps : List Float} {ws : List ℕ} {xs a₀ b₀ : List Float
     second = k .kept .second;
   }
 
--- ---- in a turn at layer l of a row whose model and slices fit
-pub record Turning (g : Grid) (ps : List Float) (ws : List ℕ) (xs a₀ b₀ : List Float) (l : ℕ) (c : Layer) (a b : List Float) : Type 0 where
+-- ---- in a turn at layer l, with the mesh m of the grid, of a row whose model and slices fit
+pub record Turning (g : Grid) (ps : List Float) (ws : List ℕ) (xs a₀ b₀ : List Float) (l : ℕ) (c : Layer) (m : Mesh)
+    (a b : List Float) : Type 0 where
   pub fits : Fits g ps ws a₀ b₀
+  pub mesh : m ≡ meshOf g
   pub more : l < length ws - 1
   pub walked : Walked g ps ws xs a₀ b₀ l c a b
 
-module _ {g : Grid} {ps : List Float} {ws : List ℕ} {xs a₀ b₀ : List Float} {l : ℕ} {c : Layer} {a b : List Float}
-    (t : Turning g ps ws xs a₀ b₀ l c a b) where
+module _ {g : Grid} {ps : List Float} {ws : List ℕ} {xs a₀ b₀ : List Float} {l : ℕ} {c : Layer} {m : Mesh} {a b : List Float}
+    (t : Turning g ps ws xs a₀ b₀ l c m a b) where
   stood : Stands g ws l c
   stood = t .walked .stands
 
@@ -111,14 +114,14 @@ module _ {g : Grid} {ps : List Float} {ws : List ℕ} {xs a₀ b₀ : List Float
   roomB j i = rw (t .walked .kept .sizeB) (t .fits .second j i)
 
   -- what the turn asks
-  pub mesh-is : Meshed (c .mesh)
-  mesh-is = meshed-as (stood .mesh) (t .fits .walkable .grid)
+  pub mesh-is : Meshed m
+  mesh-is = meshed-as (t .mesh) (t .fits .walkable .grid)
 
-  pub may-turn : Finite (length ps) ps → Turns (c .mesh .grid) (take (length ps - c .at) (drop (c .at) ps)) (c .inputs) (c .outputs) a b
+  pub may-turn : Finite (length ps) ps → Turns (m .grid) (take (length ps - c .at) (drop (c .at) ps)) (c .inputs) (c .outputs) a b
   may-turn y =
       let now : l < length ws = omega (arith, t .more) in
       let then : l + 1 < length ws = omega (arith, t .more) in
-      rw (stood .mesh, stood .inputs, stood .outputs) (record {
+      rw (t .mesh, stood .inputs, stood .outputs) (record {
         layer = record {
           some = t .fits .walkable .positive (l + 1) then;
           there = rw (← stood .inputs, ← stood .outputs, rest-length) (omega (arith, part-in));
@@ -132,12 +135,12 @@ module _ {g : Grid} {ps : List Float} {ws : List ℕ} {xs a₀ b₀ : List Float
 
   -- and what it leaves
   pub left : {a' b' : List Float} {r : Bool}
-      → Turned (basisOf (c .mesh .grid)) (take (length ps - c .at) (drop (c .at) ps)) l (c .inputs) (c .outputs) a b a' b' r
+      → Turned (basisOf (m .grid)) (take (length ps - c .at) (drop (c .at) ps)) l (c .inputs) (c .outputs) a b a' b' r
       → Left g ps ws xs a₀ b₀ l a' b' r
   left {a'} {b'} {r} y =
       let then : l + 1 < length ws = omega (arith, t .more) in
       let z : Turned (basisOf g) (drop (paramsTo (g .intervals + 5) ws l) ps) l (widthAt ws l) (widthAt ws (l + 1)) a b a' b' r =
-      rw (rest (c .at) ps, stood .mesh, stood .part, stood .inputs, stood .outputs) at y in
+      rw (rest (c .at) ps, t .mesh, stood .part, stood .inputs, stood .outputs) at y in
       record {
         more = t .more;
         values = turn-values _ _ _ _ _ _ _ _ _ _ z ∙ next-values (t .walked);

@@ -1,5 +1,5 @@
--- Two work slices in turn: "Layers write them in turn, first one first" (document 01). What the steps of a row's pass promise
--- and ask. Definitions only.
+-- R8.8: two work slices, which the layers write in turn, the first layer the first. What the steps of a row's pass
+-- promise and ask. Definitions only.
 use Prim.Native.Nat.{ℕ, _+_, _-_, _*_, _%_, _≤_, _<_}
 use mathlib.Core.Path.{_≡_}
 use mathlib.Core.Bool.{Bool, true, false, cond}

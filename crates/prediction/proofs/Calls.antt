@@ -18,11 +18,11 @@ use Rattle.layers.specs.Net.{Net}
 use Rattle.layers.specs.Widths.{inputWidth, outputWidth, parametersIn}
 use Rattle.batches.specs.Batch.{rowsIn}
 use Rattle.config.specs.declared.Sizes.{Sizes}
-use Rattle.config.specs.Config.{carriedBy, sizesOf}
+use Rattle.config.specs.Config.{carriedBy, rowCarried, sizesOf}
 use Rattle.config.proofs.Answers.{Rejected}
 use Rattle.admission.specs.Admission.{upTo9}
 use Rattle.passes.proofs.Admitted.{Admitted, swept-end}
-use Rattle.prediction.specs.Predict.{outputsFit, from10To11, rowCarried, Predicted}
+use Rattle.prediction.specs.Predict.{outputsFit, from10To11, Predicted}
 use Rattle.prediction.specs.Steps.{RowsPredicted}
 
 -- ---- 10 and 11 before the rows

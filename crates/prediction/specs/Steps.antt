@@ -11,9 +11,10 @@ use Rattle.refusals.specs.Refusals.{_then_, past, outcomeOf}
 use Rattle.spline.specs.declared.Grid.{Grid}
 use Rattle.layers.specs.Net.{Net}
 use Rattle.layers.specs.Widths.{outputWidth}
-use Rattle.passes.specs.Pass.{rowsOf}
+use Rattle.passes.specs.Pass.{rowsOf, rowsRefusal, rowsDone}
 use Rattle.passes.specs.Turns.{Past, Fits}
-use Rattle.prediction.specs.Predict.{rowsRefusal, rowsDone, outputsOver, rowCarried}
+use Rattle.config.specs.Config.{rowCarried}
+use Rattle.prediction.specs.Predict.{outputsOver}
 
 -- the rows of a batch, with room for their outputs
 pub record Predictable (g : Grid) (ps : List Float) (ws : List ℕ) (xs a b ys : List Float) (rows : ℕ) : Type 0 where

@@ -11,6 +11,7 @@ ghost use Rattle.prediction.specs.Predict.{Predicted, outputsFit, from10
 ghost use Rattle.prediction.specs.Steps.{Predictable, RowsPredicted};
 use admission::check_work;
 use config::Checked;
+use layer_cursor::Layer;
 use refusals::Outcome;
 use refusals::Refusal;
 use spline::Grid;
@@ -59,8 +60,10 @@ fn predict_rows(
     let w = widths[0];
     let v = widths[layers];
     let table = exponential::scaled_powers();
+    let start = Layer::first(widths, grid);
     for r in 0..rows {
         let number = passes::run_row(
+            start,
             grid,
             &table,
             widths,
@@ -97,13 +100,15 @@ fn predict_sound(
 {
     let layers = widths.len() - 1;
     let w = widths[0];
-    if !outputs_fit(inputs.len(), w, outputs.len(), widths[layers]) {
+    let fit = outputs_fit(inputs.len(), w, outputs.len(), widths[layers]);
+    let finite = floats::all_finite(model);
+    if !fit {
         return Outcome::Refused(Refusal {
             number: 10,
             carried: 0,
         });
     }
-    if !floats::all_finite(model) {
+    if !finite {
         return Outcome::Refused(Refusal {
             number: 11,
             carried: 0,

@@ -15,7 +15,7 @@ use borrow.Author.Tests.{eq-eqb, ne-eqb}
 use Rattle.floats.specs.Sums.{flatTo}
 use Rattle.floats.proofs.Loops.{front, rest, rest-length}
 use Rattle.spline.specs.declared.Grid.{Grid}
-use Rattle.layers.specs.Net.{Net, netOf, basisOf}
+use Rattle.layers.specs.Net.{Net, netOf, basisAt, basisOf}
 use Rattle.layers.specs.Widths.{widthAt, paramsTo}
 use Rattle.layer_cursor.specs.declared.Layer.{Layer}
 use Rattle.layer_cursor.specs.Cursor.{Stands}
@@ -23,6 +23,7 @@ use Rattle.layer_cursor.proofs.Cursors.{inside}
 use Rattle.refusals.specs.Refusals.{_otherwise_}
 use Rattle.refusals.proofs.Firsts.{test-passes}
 use Rattle.batches.specs.Batch.{rowFault}
+use Rattle.passes.specs.Pass.{nodesOf}
 use Rattle.passes.specs.Turns.{holder}
 use Rattle.passes.proofs.Passes.{nodes-length}
 use Rattle.passes.proofs.Walks.{Walked, Turning, Left, set-out, one-layer, stopped, arrived, may-turn}
@@ -31,7 +32,7 @@ use Rattle.touched_layer.specs.Touched.{layerTouched}
 use Rattle.touched_layer.specs.Marks.{markedBy}
 use Rattle.touched_layer.proofs.Marking.{marked-first, marked-size, marked-part}
 use Rattle.touched_layer.proofs.Layers.{layer-length}
-use Rattle.touched_row.specs.Touched.{rowLayer, rowTouched}
+use Rattle.touched_row.specs.Touched.{rowTouched}
 use Rattle.touched_row.specs.RowMarks.{Held, Markable, LayersMarked, RowMarked}
 
 -- ---- which slice holds the numbers that layer l reads, and the marks made from its front
@@ -46,6 +47,10 @@ pub marked-held : (g : Grid) (w n : ℕ) {from held : List Float} (ms : List ℕ
     → ms' ≡ markedBy (layerTouched (basisOf g) (take w held) n) ms
 marked-held g w n {from} ms h p =
     p ∙ ap (λ (l : List Float). markedBy (layerTouched (basisOf g) l n) ms) (front w from ∙ ap (take w) (sym h))
+
+-- what layer l touches
+abbrev rowLayer : Net → List Float → List ℕ → List Float → ℕ → List Bool
+rowLayer N ps ws xs l = layerTouched (basisAt N l) (nodesOf N ps ws xs l) (widthAt ws (l + 1))
 
 -- the first l layers have as many parameters as the model has there
 row-length : (g : Grid) (ps : List Float) (ws : List ℕ) (xs : List Float) → length xs ≡ widthAt ws 0 → (l : ℕ)
@@ -104,8 +109,13 @@ pub record Marching (g : Grid) (ps : List Float) (ws : List ℕ) (a₀ b₀ : Li
 
 module _ {g : Grid} {ps : List Float} {ws : List ℕ} {a₀ b₀ : List Float} {ms₀ : List ℕ} {l : ℕ} {c : Layer}
     {a b : List Float} {ms : List ℕ} (t : Marching g ps ws a₀ b₀ ms₀ l c a b ms) where
-  pub turning : Turning g ps ws (rowIn ws b₀) a₀ b₀ l c a b
-  turning = record { fits = t .markable .fits; more = t .more; walked = t .marched .walked }
+  pub turning : Turning g ps ws (rowIn ws b₀) a₀ b₀ l c (c .mesh) a b
+  turning = record {
+    fits = t .markable .fits;
+    mesh = t .marched .walked .stands .mesh;
+    more = t .more;
+    walked = t .marched .walked;
+  }
 
   stood : Stands g ws l c
   stood = t .marched .walked .stands

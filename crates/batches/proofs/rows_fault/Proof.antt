@@ -5,7 +5,8 @@ use Prim.Native.Nat.{ℕ, _≤_, _-_}
 use native.Mathlib.Nat.{le-of-lt}
 use native.Mathlib.Omega.{arith}
 use lib.ListN.{length}
-use Rattle.batches.specs.Batch.{rowsIn, rowFault, rowFaultAt, rowsFault}
+use Rattle.batches.specs.Batch.{rowsIn, rowFault, rowsFault}
+use Rattle.batches.specs.Sound.{rowFaultAt}
 use Rattle.refusals.specs.Refusals.{firstTo}
 use Rattle.refusals.proofs.Firsts.{first-none, first-more, first-stop}
 use Rattle.batches.proofs.Rows.{row-begins}

@@ -7,7 +7,7 @@ use native.Mathlib.Omega.{arith}
 use lib.ListN.{length}
 use Rattle.layers.specs.Net.{netOf}
 use Rattle.layers.specs.Widths.{inputWidth, outputWidth}
-use Rattle.batches.specs.Batch.{rowFaultAt}
+use Rattle.batches.specs.Sound.{rowFaultAt}
 use Rattle.batches.proofs.Rows.{row-begins, wide-row}
 use Rattle.passes.proofs.Passes.{kept-all}
 use Rattle.passes.proofs.EachRow.{AtRow, RanRow, row-in, fits-now, finite-all, ran, fits-kept, wide-rows, outputs-room}
@@ -17,11 +17,11 @@ use Rattle.loss.proofs.sum_rows.Statement.{statement}
 use Rattle.loss.proofs.sum_rows.Tie as tie
 
 abbrev Inv-loop : tie.InvT-loop
-Inv-loop grid widths model inputs targets rows first₀ second₀ layers w v sum₀ table r₀ first second sum r =
+Inv-loop grid widths model inputs targets rows first₀ second₀ layers w v sum₀ table start r₀ first second sum r =
     Adding (netOf grid) model widths inputs targets first₀ second₀ rows r sum first second
 
 abbrev μ-loop : tie.MeasureT-loop
-μ-loop grid widths model inputs targets rows first₀ second₀ layers w v sum₀ table r₀ first second sum r = rows - r
+μ-loop grid widths model inputs targets rows first₀ second₀ layers w v sum₀ table start r₀ first second sum r = rows - r
 
 -- ---- from place to place: only these lines know how many places lie between
 abbrev lent : tie.After-slice-known2 Inv-loop μ-loop → tie.After-shared-slice-known4 Inv-loop μ-loop
@@ -30,8 +30,11 @@ lent c = c .before .before
 abbrev start : tie.After-slice-known2 Inv-loop μ-loop → tie.Start Inv-loop μ-loop
 start c = lent c .before .before .before .before
 
+abbrev set-up : tie.After-scaled-powers Inv-loop μ-loop → tie.Start Inv-loop μ-loop
+set-up c = start (c .before .before .before)
+
 abbrev entry : tie.At-loop Inv-loop μ-loop → tie.Start Inv-loop μ-loop
-entry c = start (c .before .before .before .before)
+entry c = set-up (c .before .before)
 
 abbrev ran-in : tie.After-run-row Inv-loop μ-loop → tie.In-loop Inv-loop μ-loop
 ran-in c = c .before .before .before .before .before
@@ -78,11 +81,12 @@ after-row : (c : tie.After-run-row Inv-loop μ-loop)
     → RanRow (netOf (entry (ran-in c .before) .args .grid)) (entry (ran-in c .before) .args .model .now)
     (entry (ran-in c .before) .args .widths .now) (entry (ran-in c .before) .args .inputs .now)
     (entry (ran-in c .before) .args .first .now) (entry (ran-in c .before) .args .second .now)
-    (ran-in c .before .loop .r) (c .run-row .last .1 .1 .1 .1 .1 .0) (c .run-row .last .1 .1 .1 .1 .1 .1 .0)
+    (ran-in c .before .loop .r) (c .run-row .last .1 .1 .1 .1 .1 .1 .0)
+    (c .run-row .last .1 .1 .1 .1 .1 .1 .1 .0)
     (c .run-row .result)
 after-row c =
-    ran (at-row (ran-in c)) (c .before .before .before .row .ensures) (c .run-row .kept .1 .1 .1 .1 .1 .0)
-    (c .run-row .kept .1 .1 .1 .1 .1 .1 .0) (c .run-row .ensures)
+    ran (at-row (ran-in c)) (c .before .before .before .row .ensures) (c .run-row .kept .1 .1 .1 .1 .1 .1 .0)
+    (c .run-row .kept .1 .1 .1 .1 .1 .1 .1 .0) (c .run-row .ensures)
 
 -- row r of the inputs has no fault, and there is a row r of the targets
 sound : (c : tie.In-loop Inv-loop μ-loop)
@@ -125,6 +129,9 @@ shared-slice-read-v c = omega (arith, start (c .before .before) .pre .fits .walk
 scaled-powers-requires : tie.Need-scaled-powers-requires Inv-loop μ-loop
 scaled-powers-requires c κs = search needs
 
+first-requires : tie.Need-first-requires Inv-loop μ-loop
+first-requires c κs = set-up c .pre .fits .walkable .grid
+
 loop-holds : tie.Need-loop-holds Inv-loop μ-loop
 loop-holds c = record { bound = omega arith; running = none-summed _ _ _ _ _; kept = kept-all _ _ _ }
 
@@ -134,7 +141,8 @@ row-requires c κs = row-in (at-row (c .before))
 run-row-requires : tie.Need-run-row-requires Inv-loop μ-loop
 run-row-requires c κs =
     let t = c .before .before .before .before in
-    (fits-now (at-row t), t .before .before .scaled-powers .ensures, finite-all (at-row t))
+    let ready = t .before .before in
+    (fits-now (at-row t), ready .before .scaled-powers .ensures, finite-all (at-row t), ready .first .ensures)
 
 same-length : tie.Need-same-length Inv-loop μ-loop
 same-length c = after-row (stop c) .kept .sizeA
@@ -222,6 +230,7 @@ sum-rows-spec =
     mul-v
     shared-slice-read-v
     scaled-powers-requires
+    first-requires
     loop-holds
     row-requires
     run-row-requires

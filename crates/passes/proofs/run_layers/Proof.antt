@@ -11,27 +11,24 @@ use Rattle.passes.proofs.run_layers.Statement.{statement}
 use Rattle.passes.proofs.run_layers.Tie as tie
 
 abbrev Inv-loop : tie.InvT-loop
-Inv-loop grid table widths model first₀ second₀ layers layer₀ first second layer =
+Inv-loop grid table widths model first₀ second₀ layers mesh layer₀ first second layer =
     Walked grid model widths (take (widthAt widths 0) second₀) first₀ second₀ (layer .index) layer first second
 
 abbrev μ-loop : tie.MeasureT-loop
-μ-loop grid table widths model first₀ second₀ layers layer₀ first second layer = layers - layer .index
+μ-loop grid table widths model first₀ second₀ layers mesh layer₀ first second layer = layers - layer .index
 
 -- ---- from place to place: only these lines know how many places lie between
 abbrev head : tie.Then1 Inv-loop μ-loop → tie.At-loop Inv-loop μ-loop
 head c = c .before .before
 
-abbrev lent : tie.At-loop Inv-loop μ-loop → tie.After-shared-slice-known2 Inv-loop μ-loop
-lent c = c .before .before .before .before
+abbrev begun : tie.After-mesh Inv-loop μ-loop → tie.Start Inv-loop μ-loop
+begun c = c .before .before .before .before .before
 
 abbrev entry : tie.Then1 Inv-loop μ-loop → tie.Start Inv-loop μ-loop
-entry c = lent (head c) .before .before
-
-abbrev cut : tie.After-mesh Inv-loop μ-loop → tie.Then1 Inv-loop μ-loop
-cut c = c .before
+entry c = begun (head c .before)
 
 abbrev asked : tie.After-turn-arg3 Inv-loop μ-loop → tie.Then1 Inv-loop μ-loop
-asked c = cut (c .before .before .before)
+asked c = c .before .before .before
 
 abbrev turned : tie.After-turn Inv-loop μ-loop → tie.Then1 Inv-loop μ-loop
 turned c = asked (c .before)
@@ -49,8 +46,8 @@ go-on c = tested (c .before)
 turning : (c : tie.Then1 Inv-loop μ-loop)
     → Turning (entry c .args .grid) (entry c .args .model .now) (entry c .args .widths .now)
     (take (widthAt (entry c .args .widths .now) 0) (entry c .args .second .now)) (entry c .args .first .now) (entry c .args .second .now)
-    (head c .loop .layer .index) (head c .loop .layer) (head c .loop .first) (head c .loop .second)
-turning c = record { fits = entry c .pre .0; more = c .if1 .taken; walked = head c .loop .inv }
+    (head c .loop .layer .index) (head c .loop .layer) (entry c .args .start .mesh) (head c .loop .first) (head c .loop .second)
+turning c = record { fits = entry c .pre .0; mesh = entry c .pre .3 .mesh; more = c .if1 .taken; walked = head c .loop .inv }
 
 done : (c : tie.After-turn Inv-loop μ-loop)
     → Left (entry (turned c) .args .grid) (entry (turned c) .args .model .now) (entry (turned c) .args .widths .now)
@@ -66,23 +63,20 @@ ended c = c .before .before
 sub-layers : tie.Need-sub-layers Inv-loop μ-loop
 sub-layers c = omega arith
 
-first-requires : tie.Need-first-requires Inv-loop μ-loop
-first-requires c κs = c .before .before .before .before .pre .0 .walkable .grid
-
 loop-holds : tie.Need-loop-holds Inv-loop μ-loop
-loop-holds c = here (set-out (c .first .ensures) refl)
+loop-holds c = here (set-out (begun c .pre .3) refl)
 
 mul-turn : tie.Need-mul-turn Inv-loop μ-loop
-mul-turn c = omega (arith, part-in (turning (cut c)), entry (cut c))
+mul-turn c = omega (arith, part-in (turning c), entry c)
 
 sub-turn : tie.Need-sub-turn Inv-loop μ-loop
-sub-turn c = omega (arith, part-in (turning (cut c)))
+sub-turn c = omega (arith, part-in (turning c))
 
 part-turn-start : tie.Need-part-turn-start Inv-loop μ-loop
-part-turn-start c = omega (arith, part-in (turning (cut c)))
+part-turn-start c = omega (arith, part-in (turning c))
 
 part-turn-end : tie.Need-part-turn-end Inv-loop μ-loop
-part-turn-end c = omega (arith, part-in (turning (cut c)))
+part-turn-end c = omega (arith, part-in (turning c))
 
 turn-requires : tie.Need-turn-requires Inv-loop μ-loop
 turn-requires c κs =
@@ -125,7 +119,6 @@ run-layers-spec =
     Inv-loop
     μ-loop
     sub-layers
-    first-requires
     loop-holds
     mul-turn
     sub-turn

@@ -44,7 +44,7 @@ run-layers-requires : tie.Need-run-layers-requires
 run-layers-requires c κs =
     let k = copied c in
     let pre = entry (checked k) .pre in
-    (fits-still (sound (checked k)) _ (k .copy .ensures), pre .1, pre .2)
+    (fits-still (sound (checked k)) _ (k .copy .ensures), pre .1, pre .2, pre .3)
 
 same-length : tie.Need-same-length
 same-length c = search needs

@@ -13,11 +13,11 @@ use Rattle.prediction.proofs.predict_rows.Statement.{statement}
 use Rattle.prediction.proofs.predict_rows.Tie as tie
 
 abbrev Inv-loop : tie.InvT-loop
-Inv-loop grid widths model inputs rows first₀ second₀ outputs₀ layers w v table r₀ first second outputs r =
+Inv-loop grid widths model inputs rows first₀ second₀ outputs₀ layers w v table start r₀ first second outputs r =
     Going (netOf grid) model widths inputs first₀ second₀ outputs₀ rows r first second outputs
 
 abbrev μ-loop : tie.MeasureT-loop
-μ-loop grid widths model inputs rows first₀ second₀ outputs₀ layers w v table r₀ first second outputs r = rows - r
+μ-loop grid widths model inputs rows first₀ second₀ outputs₀ layers w v table start r₀ first second outputs r = rows - r
 
 -- ---- from place to place: only these lines know how many places lie between
 abbrev lent : tie.After-slice-known3 Inv-loop μ-loop → tie.After-shared-slice-known3 Inv-loop μ-loop
@@ -26,8 +26,11 @@ lent c = c .before .before .before
 abbrev start : tie.After-slice-known3 Inv-loop μ-loop → tie.Start Inv-loop μ-loop
 start c = lent c .before .before .before
 
+abbrev set-up : tie.After-scaled-powers Inv-loop μ-loop → tie.Start Inv-loop μ-loop
+set-up c = start (c .before .before .before)
+
 abbrev entry : tie.At-loop Inv-loop μ-loop → tie.Start Inv-loop μ-loop
-entry c = start (c .before .before .before .before)
+entry c = set-up (c .before .before)
 
 abbrev ran-in : tie.After-run-row Inv-loop μ-loop → tie.In-loop Inv-loop μ-loop
 ran-in c = c .before .before .before .before .before
@@ -62,11 +65,12 @@ after-row : (c : tie.After-run-row Inv-loop μ-loop)
     → RanRow (netOf (entry (ran-in c .before) .args .grid)) (entry (ran-in c .before) .args .model .now)
     (entry (ran-in c .before) .args .widths .now) (entry (ran-in c .before) .args .inputs .now)
     (entry (ran-in c .before) .args .first .now) (entry (ran-in c .before) .args .second .now)
-    (ran-in c .before .loop .r) (c .run-row .last .1 .1 .1 .1 .1 .0) (c .run-row .last .1 .1 .1 .1 .1 .1 .0)
+    (ran-in c .before .loop .r) (c .run-row .last .1 .1 .1 .1 .1 .1 .0)
+    (c .run-row .last .1 .1 .1 .1 .1 .1 .1 .0)
     (c .run-row .result)
 after-row c =
-    ran (at-row (ran-in c)) (c .before .before .before .row .ensures) (c .run-row .kept .1 .1 .1 .1 .1 .0)
-    (c .run-row .kept .1 .1 .1 .1 .1 .1 .0) (c .run-row .ensures)
+    ran (at-row (ran-in c)) (c .before .before .before .row .ensures) (c .run-row .kept .1 .1 .1 .1 .1 .1 .0)
+    (c .run-row .kept .1 .1 .1 .1 .1 .1 .1 .0) (c .run-row .ensures)
 
 abbrev turn : tie.Else1 Inv-loop μ-loop → tie.In-loop Inv-loop μ-loop
 turn c = ran-in (go-on c)
@@ -94,6 +98,9 @@ shared-slice-read-v c = omega (arith, start (c .before .before) .pre .fits .walk
 scaled-powers-requires : tie.Need-scaled-powers-requires Inv-loop μ-loop
 scaled-powers-requires c κs = search needs
 
+first-requires : tie.Need-first-requires Inv-loop μ-loop
+first-requires c κs = set-up c .pre .fits .walkable .grid
+
 loop-holds : tie.Need-loop-holds Inv-loop μ-loop
 loop-holds c = record { bound = omega arith; written = none-written; kept = kept-all _ _ _ }
 
@@ -103,7 +110,8 @@ row-requires c κs = row-in (at-row (c .before))
 run-row-requires : tie.Need-run-row-requires Inv-loop μ-loop
 run-row-requires c κs =
     let t = c .before .before .before .before in
-    (fits-now (at-row t), t .before .before .scaled-powers .ensures, finite-all (at-row t))
+    let ready = t .before .before in
+    (fits-now (at-row t), ready .before .scaled-powers .ensures, finite-all (at-row t), ready .first .ensures)
 
 same-length : tie.Need-same-length Inv-loop μ-loop
 same-length c = after-row (stop c) .kept .sizeA
@@ -142,7 +150,9 @@ copy-outputs-requires c κs =
     (outputs-room fits .0, outputs-room fits .1, rw rest-length (omega (arith, place e)))
 
 add-r : tie.Need-add-r Inv-loop μ-loop
-add-r c = omega arith
+add-r c =
+    let t = turn (cut (copied c .before .before)) in
+    omega (arith, t .loop-test .taken, entry (t .before))
 
 loop-less : tie.Need-loop-less Inv-loop μ-loop
 loop-less c = omega arith
@@ -185,6 +195,7 @@ predict-rows-spec =
     mul-v
     shared-slice-read-v
     scaled-powers-requires
+    first-requires
     loop-holds
     row-requires
     run-row-requires

@@ -19,11 +19,14 @@ lent c = c .before .before .before .before
 abbrev entry : tie.After-shared-slice-known5 → tie.Start
 entry c = lent c .before .before .before .before
 
-abbrev start : tie.Else1 → tie.Start
-start c = entry (c .before .before)
+abbrev tested : tie.After-all-finite → tie.After-outputs-fit
+tested c = c .before
 
-abbrev fitting : tie.Else2 → tie.Else1
-fitting c = c .before .before
+abbrev start : tie.After-all-finite → tie.Start
+start c = entry (tested c .before)
+
+abbrev passed : tie.Else2 → tie.After-all-finite
+passed c = c .before .before
 
 abbrev asked : tie.After-predict-rows-arg3 → tie.After-rows-in
 asked c = c .before .before .before
@@ -36,12 +39,12 @@ ran c = home c .before .before .before
 
 -- ---- what 10 and 11 leave
 fit : (c : tie.Else1)
-    → outputsFit (inputWidth (start c .args .widths .now)) (outputWidth (start c .args .widths .now))
-    (length (start c .args .inputs .now)) (length (start c .args .outputs .now)) ≡ true
-fit c = sym (c .before .outputs-fit .ensures) ∙ not-false _ (c .if1 .left)
+    → outputsFit (inputWidth (start (c .before) .args .widths .now)) (outputWidth (start (c .before) .args .widths .now))
+    (length (start (c .before) .args .inputs .now)) (length (start (c .before) .args .outputs .now)) ≡ true
+fit c = sym (tested (c .before) .outputs-fit .ensures) ∙ not-false _ (c .if1 .left)
 
-finite : (c : tie.Else2) → allFinite (start (fitting c) .args .model .now) ≡ true
-finite c = sym (c .before .all-finite .ensures) ∙ not-false _ (c .if2 .left)
+finite : (c : tie.Else2) → allFinite (start (passed c) .args .model .now) ≡ true
+finite c = sym (passed c .all-finite .ensures) ∙ not-false _ (c .if2 .left)
 
 -- ---- the needs
 sub-layers : tie.Need-sub-layers
@@ -59,27 +62,28 @@ shared-slice-read-outputs-fit c = search needs
 outputs-fit-requires : tie.Need-outputs-fit-requires
 outputs-fit-requires c κs = wide-rows (entry c .pre)
 
-returns : tie.Need-returns
-returns c = wrong-outputs (sym (c .before .outputs-fit .ensures) ∙ not-true _ (c .if1 .taken))
-
 all-finite-requires : tie.Need-all-finite-requires
 all-finite-requires c κs = search needs
 
+returns : tie.Need-returns
+returns c = wrong-outputs (sym (tested (c .before) .outputs-fit .ensures) ∙ not-true _ (c .if1 .taken))
+
 returns-2 : tie.Need-returns-2
-returns-2 c = wild-model (fit (c .before .before)) (sym (c .before .all-finite .ensures) ∙ not-true _ (c .if2 .taken))
+returns-2 c =
+    wild-model (fit (c .before)) (sym (c .before .before .all-finite .ensures) ∙ not-true _ (c .if2 .taken))
 
 rows-in-requires : tie.Need-rows-in-requires
-rows-in-requires c κs = wide-rows (start (fitting c) .pre) .0
+rows-in-requires c κs = wide-rows (start (passed c) .pre) .0
 
 predict-rows-requires : tie.Need-predict-rows-requires
 predict-rows-requires c κs =
     let counted = asked c in
     let e = counted .before in
     record {
-      fits = start (fitting e) .pre;
+      fits = start (passed e) .pre;
       finite = finite e;
       count = counted .rows-in .ensures;
-      room = outputs-room _ _ _ _ _ (fit (fitting e)) (counted .rows-in .ensures);
+      room = outputs-room _ _ _ _ _ (fit (e .before)) (counted .rows-in .ensures);
     }
 
 same-length : tie.Need-same-length
@@ -95,7 +99,7 @@ returns-3 : tie.Need-returns-3
 returns-3 c =
     let after = ran c in
     let e = asked (after .before) .before in
-    rows-run (fit (fitting e)) (finite e) (after .predict-rows .ensures)
+    rows-run (fit (e .before)) (finite e) (after .predict-rows .ensures)
 
 pub predict-sound-spec : {M : Type 1} → statement M
 predict-sound-spec =
@@ -106,8 +110,8 @@ predict-sound-spec =
     mul-outputs-fit
     shared-slice-read-outputs-fit
     outputs-fit-requires
-    returns
     all-finite-requires
+    returns
     returns-2
     rows-in-requires
     predict-rows-requires

@@ -4,6 +4,7 @@ use Prim.Native.Nat.{_+_, _*_, _-_, _≤_, _<_}
 use native.Mathlib.Omega.{arith}
 use lib.ListN.{length, drop}
 use Rattle.floats.proofs.Loops.{rest-length, cut}
+use Rattle.local_basis.proofs.Meshes.{by-numbers}
 use Rattle.fast_forward.specs.Inputs.{edgeFour}
 use Rattle.fast_forward.proofs.Edges.{Added, added-none, added-more, added-all, first-there, turn, all-added}
 use Rattle.fast_forward.proofs.inputs.add_four.Statement.{statement}
@@ -50,8 +51,8 @@ mul-first c = omega (arith, first-there (entry c .pre .2))
 silu-by-requires : tie.Need-silu-by-requires Inv-loop μ-loop
 silu-by-requires c κs = entry c .pre .1
 
-values-at-requires : tie.Need-values-at-requires Inv-loop μ-loop
-values-at-requires c κs = let p = entry (c .before) .pre in (p .0, p .4)
+values-by-requires : tie.Need-values-by-requires Inv-loop μ-loop
+values-by-requires c κs = let p = entry (c .before) .pre in by-numbers (p .0) (p .4)
 
 loop-holds : tie.Need-loop-holds Inv-loop μ-loop
 loop-holds c = added-none
@@ -83,7 +84,7 @@ part-edge-by-end c = omega (arith, known (c .before))
 edge-by-requires : tie.Need-edge-by-requires Inv-loop μ-loop
 edge-by-requires c κs =
     let t = c .before .before in
-    rw rest-length (omega (arith, known t, t .before .before .values-at .ensures .fit))
+    rw rest-length (omega (arith, known t, t .before .before .values-by .ensures .fit))
 
 mul-outputs-2 : tie.Need-mul-outputs-2 Inv-loop μ-loop
 mul-outputs-2 c = omega (arith, known (turned c))
@@ -108,7 +109,7 @@ same-length c = c .before .loop .inv .size
 returns : tie.Need-returns Inv-loop μ-loop
 returns c =
     let made = c .before .before in
-    all-added (start (c .before) .pre .2) _ _ _ _ _ (made .before .silu-by .ensures) (made .values-at .ensures)
+    all-added (start (c .before) .pre .2) _ _ _ _ _ (made .before .silu-by .ensures) (made .values-by .ensures)
     (added-all (c .before .loop .inv) (omega arith))
 
 pub add-four-spec : {M : Type 1} → statement M
@@ -121,7 +122,7 @@ add-four-spec =
     mul-row
     mul-first
     silu-by-requires
-    values-at-requires
+    values-by-requires
     loop-holds
     mul-at
     add-at

@@ -1,42 +1,13 @@
 -- `local_basis::fours::values_at` meets its contract. Assumes nothing.
-use borrow.Author.Needs.{needs}
-use Rattle.local_basis.proofs.Standing.{may-place, values-none, values-some}
+use Rattle.local_basis.proofs.Meshes.{by-numbers}
 use Rattle.local_basis.proofs.fours.values_at.Statement.{statement}
 use Rattle.local_basis.proofs.fours.values_at.Tie as tie
 
-abbrev searched : tie.After-cubes → tie.After-interval
-searched c = c .before .before .before
-
-interval-requires : tie.Need-interval-requires
-interval-requires c κs = search needs
-
-add-if1 : tie.Need-add-if1
-add-if1 c = search needs
-
-no-four-requires : tie.Need-no-four-requires
-no-four-requires c κs = search needs
+values-by-requires : tie.Need-values-by-requires
+values-by-requires c κs = by-numbers (c .pre .0) (c .pre .1)
 
 returns : tie.Need-returns
-returns c =
-    let at = c .before .before .before in
-    rw (c .no-four .ensures) (values-none (at .before .pre) (at .interval .ensures) (c .before .if1 .taken))
-
-cubes-requires : tie.Need-cubes-requires
-cubes-requires c κs = search needs
-
-placed-requires : tie.Need-placed-requires
-placed-requires c κs =
-    let at = searched c in
-    may-place (at .before .pre) (at .interval .ensures) (c .before .if1 .left) (c .cubes .ensures .start)
-
-returns-2 : tie.Need-returns-2
-returns-2 c =
-    let row = c .before in
-    let at = searched row in
-    rw (c .placed .ensures)
-    (values-some (at .before .pre) (at .interval .ensures) (row .before .if1 .left) _ (row .cubes .ensures))
+returns c = c .values-by .ensures
 
 pub values-at-spec : {M : Type 1} → statement M
-values-at-spec =
-    tie.close
-    (tie.spec interval-requires add-if1 no-four-requires returns cubes-requires placed-requires returns-2)
+values-at-spec = tie.close (tie.spec values-by-requires returns)

@@ -18,12 +18,12 @@ use Rattle.layers.specs.Widths.{widthAt, layerSize, paramsTo, widestTo, widthsT
 use Rattle.layers.proofs.Widths.{params-more}
 use Rattle.config.specs.declared.Shape.{Shape}
 use Rattle.config.specs.declared.Whole.the-variants.{Below, TooLarge}
-use Rattle.config.specs.Config.{someWide, shapeSound, edgesFit, productsFit, intervalsSound, movesMinusOne}
-use Rattle.config.specs.Config.{sizeFault, endsSound, stepsSound, configFault, checkedOf, checkOf}
+use Rattle.config.specs.Config.{shapeSound, productsFit, intervalsSound, domainSound}
+use Rattle.config.specs.Config.{unitGrid, sizeFault, configFault, checkedOf, checkOf}
 use Rattle.config.specs.Fold.{wholeOf, isTooLarge, layerOf, addSum, addSize, addLayer, stepOf, emptyShape}
-use Rattle.config.specs.Fold.{perEdgeOf, shapeTo, totalOf, domainSound, limitsFault, countedFault, shapeFault}
+use Rattle.config.specs.Fold.{perEdgeOf, shapeTo, totalOf, givenSound, limitsFault, countedFault, shapeFault}
 use Rattle.config.specs.Fold.{counted, shapeSizes, verdictOf}
-use Rattle.config.proofs.Totals.{small-all}
+use Rattle.config.proofs.Totals.{someWide, small-all}
 use Rattle.config.proofs.Tests.{both-true, neither}
 use Rattle.config.proofs.Answers.{alike}
 
@@ -36,6 +36,10 @@ pub fold-more : (per : ℕ) (ws : List ℕ) (i : ℕ) (s : Shape) (w : ℕ) → 
     → stepOf per s w ≡ shapeTo per ws (i + 1)
 unfolding shapeTo
 fold-more per ws i s w e v = rw (add-one i, e, v)
+
+-- ---- the test of a product of neighbouring widths
+abbrev edgesFit : List ℕ → ℕ → Bool
+edgesFit ws l = ltb (widthAt ws l * widthAt ws (l + 1)) (2 ^ 64)
 
 -- ---- the flags
 pub zero-is : (per : ℕ) (ws : List ℕ) (n : ℕ) → not (shapeTo per ws n .zero) ≡ allTo (someWide ws) n
@@ -131,11 +135,11 @@ size-fault-below per ws n = first-at-most 6 (sizeFault per ws) n each
 -- ---- the answer
 -- what is checked once 1 to 4 are passed
 abbrev restFault : ℕ → ℕ → Grid → ℕ
-restFault over total g = over then leb total 250000 otherwise 7 then (endsSound g && stepsSound g) otherwise 4
+restFault over total g = over then leb total 250000 otherwise 7 then domainSound g otherwise 4
 
-domain-is : (g : Grid) → leb (g .intervals) 250000 ≡ true → domainSound g ≡ endsSound g && stepsSound g
-unfolding domainSound
-domain-is g h = rw h
+given-is : (g : Grid) → leb (g .intervals) 250000 ≡ true → givenSound g ≡ domainSound g
+unfolding givenSound
+given-is g h = rw h
 
 counted-is : (over total widest nodes nodes' : ℕ) (g : Grid) → over ≤ 6
     → (leb total 250000 ≡ true → (leb (g .intervals) 250000 ≡ true) × (nodes ≡ nodes'))
@@ -144,7 +148,7 @@ counted-is : (over total widest nodes nodes' : ℕ) (g : Grid) → over ≤ 6
     ≡ checkedOf (restFault over total g) (record { parameters = total; widest = widest; nodes = nodes' })
 unfolding totalOf limitsFault
 counted-is zero total widest nodes nodes' g few h =
-    alike (leb total 250000) _ 6 _ _ _ _ refl refl (λ t. let k = h t in rw (domain-is g (k .0), k .1))
+    alike (leb total 250000) _ 6 _ _ _ _ refl refl (λ t. let k = h t in rw (given-is g (k .0), k .1))
 counted-is (suc over) total widest nodes nodes' g few h = rw (ne-eqb (suc over) 7 (omega arith))
 
 per-is : (g : ℕ) → intervalsSound g ≡ true → perEdgeOf g ≡ g + 5
@@ -190,7 +194,7 @@ verdict-at ws g (suc (suc n)) e =
     (alike _ _ 0 _ _ _ _ refl (shape-is per ws (suc (suc n)) (omega arith)) (λ a.
     alike _ _ 1 _ _ _ _ refl (wide-is per ws (suc n)) (λ b.
     alike (intervalsSound (g .intervals)) _ 2 _ _ _ _ refl refl (λ c.
-    alike (movesMinusOne (g .intervals)) _ 3 _ _ _ _ refl refl (λ d. rest-is ws g n a b c)))))
+    alike (domainSound (unitGrid (g .intervals))) _ 3 _ _ _ _ refl refl (λ d. rest-is ws g n a b c)))))
 
 -- The state of a loop that has folded all n widths of a list answers what the definition says of the list.
 pub verdict-is : (ws : List ℕ) (g : Grid) (per n i : ℕ) (s : Shape) → per ≡ perEdgeOf (g .intervals) → n ≡ length ws

@@ -1,5 +1,6 @@
 pub mod Wholes
 pub mod Tests
+pub mod Threshold
 pub mod Answers
 pub mod Totals
 pub mod Folded

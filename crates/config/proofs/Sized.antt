@@ -14,11 +14,11 @@ use Rattle.refusals.proofs.Firsts.{both-pass, test-passes}
 use Rattle.spline.specs.declared.Grid.{Grid}
 use Rattle.layers.specs.Widths.{layerSize, paramsTo, parametersIn}
 use Rattle.layers.proofs.Widths.{params-room}
-use Rattle.config.specs.Config.{configFault, someWide, shapeSound, productsFit, intervalsSound, movesMinusOne}
-use Rattle.config.specs.Config.{sizeFault, endsSound, stepsSound}
+use Rattle.config.specs.Config.{configFault, shapeSound, productsFit, intervalsSound, endsSound}
+use Rattle.config.specs.Config.{stepsSound, domainSound, unitGrid, sizeFault}
 use Rattle.config.specs.Sized.{Sized}
 use Rattle.config.proofs.Tests.{both-true, holds, intervals-between, ends-finite}
-use Rattle.config.proofs.Totals.{small-of, positive-at, widest-at, widest-within}
+use Rattle.config.proofs.Totals.{someWide, small-of, positive-at, widest-at, widest-within}
 
 -- ---- what the checks that were passed say
 record Passed (ws : List ℕ) (g : Grid) : Type 0 where
@@ -28,12 +28,12 @@ record Passed (ws : List ℕ) (g : Grid) : Type 0 where
   domain : endsSound g && stepsSound g ≡ true
 
 all-passed : (ws : List ℕ) (g : Grid) → configFault ws g ≡ 0 → Passed ws g
-unfolding configFault shapeSound
+unfolding configFault shapeSound domainSound
 all-passed ws g e =
     let after1 = both-pass (shapeSound ws otherwise 1) _ e in
     let after2 = both-pass (productsFit ws otherwise 2) _ (after1 .1) in
     let after3 = both-pass (intervalsSound (g .intervals) otherwise 3) _ (after2 .1) in
-    let after4 = both-pass (movesMinusOne (g .intervals) otherwise 4) _ (after3 .1) in
+    let after4 = both-pass (domainSound (unitGrid (g .intervals)) otherwise 4) _ (after3 .1) in
     let after6 = both-pass (firstTo (sizeFault (g .intervals + 5) ws) (length ws - 1)) _ (after4 .1) in
     let after7 = both-pass (leb (parametersIn (g .intervals + 5) ws) 250000 otherwise 7) _ (after6 .1) in
     record {

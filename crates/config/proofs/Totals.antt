@@ -6,15 +6,19 @@ use native.Mathlib.Numerals.{add-one, sub-one}
 use native.Mathlib.Decide.{le-ind}
 use native.Mathlib.Omega.{arith}
 use mathlib.Core.Path.{_≡_, ap, _∙_}
-use mathlib.Core.Bool.{Bool, true}
+use mathlib.Core.Bool.{Bool, true, not}
 use mathlib.Core.Logic.{⊎-elim}
 use mathlib.Core.List.{List}
+use lib.Dec.{eqb}
 use borrow.Author.Tests.{not-true, eqb-false}
 use Rattle.floats.specs.Sums.{allTo}
 use Rattle.layers.specs.Widths.{widthAt, paramsTo, widestTo, widthsTo}
 use Rattle.layers.proofs.Widths.{params-room}
-use Rattle.config.specs.Config.{someWide}
 use Rattle.config.proofs.Tests.{both-true}
+
+-- ---- the test of a width
+abbrev pub someWide : List ℕ → ℕ → Bool
+someWide ws i = not (eqb (widthAt ws i) 0)
 
 -- ---- a test that passes at all of 0, 1, .., n - 1 passes at each
 pub all-at : (f : ℕ → Bool) (n : ℕ) → allTo f n ≡ true → (j : ℕ) → j < n → f j ≡ true

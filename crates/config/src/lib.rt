@@ -1,13 +1,13 @@
-// Public crate: the configuration checks of document 01, numbers 1 to 7 and 4, and the sizes that an accepted one has.
+// Public crate: the configuration checks (R3.4, R4.1 to R4.8), and the sizes that an accepted one has (R4.9).
 ghost use mathlib.Core.Path.{_≡_};
 ghost use Prim.Native.Nat.{_+_, _*_, _-_, _^_, _≤_, max, min};
 ghost use Rattle.config.specs.Config.{intervalsSound, endsSound, stepsSound, checkedOf, checkOf, countOf};
 ghost use Rattle.config.specs.Fold.{wholeOf, isTooLarge, layerOf, uncount, addLayer, emptyShape, stepOf, perEdgeOf};
-ghost use Rattle.config.specs.Fold.{domainSound, limitsFault, shapeFault, counted, verdictOf};
+ghost use Rattle.config.specs.Fold.{givenSound, limitsFault, shapeFault, counted, verdictOf};
 use refusals::Refusal;
 use spline::Grid;
 
-// P, W and N of document 01: all parameters, the largest width, the sum of the widths.
+// P, W and N (R2.4, R2.5): all parameters, the largest width, the sum of the widths.
 pub struct Sizes {
     pub parameters: usize,
     pub widest: usize,
@@ -43,7 +43,8 @@ pub struct Shape {
 const MOST_PARAMETERS: usize = 250_000;
 // 2^63 - 8
 const MOST_INTERVALS: usize = 9_223_372_036_854_775_800;
-// The first count of intervals g at which 2/g no longer moves -1.
+// The first count of intervals g at which 2/g, as f32, no longer moves -1: the test of the domain [-1, 1] is a comparison
+// with it (proofs/Threshold.antt).
 const STUCK_INTERVALS: usize = 67_108_862;
 
 // A sum or product of sizes: the number, where it is below 2^64.
@@ -144,7 +145,7 @@ fn ends_sound(grid: Grid) -> bool
     floats::is_finite(grid.lo) & floats::is_finite(grid.hi) & !(grid.lo >= grid.hi)
 }
 
-// The source's tests on the width and on the outermost knots: each step must be finite and move its end.
+// R4.4, the tests on the width and on the outermost knots: each step must be finite and move its end.
 fn steps_sound(grid: Grid) -> bool
     requires { ⌜ grid .intervals ≤ 250000 ⌝ }
     ensures { λ r. ⌜ r ≡ stepsSound grid ⌝ }
@@ -164,8 +165,8 @@ fn steps_sound(grid: Grid) -> bool
 
 // 4 for the given domain. An edge has more parameters than the grid has intervals, so that no configuration that passes 7
 // fails the first test here: it is for a state that no widths lead to.
-fn domain_sound(grid: Grid) -> bool
-    ensures { λ r. ⌜ r ≡ domainSound grid ⌝ }
+fn given_sound(grid: Grid) -> bool
+    ensures { λ r. ⌜ r ≡ givenSound grid ⌝ }
 {
     if grid.intervals > MOST_PARAMETERS {
         return false;
@@ -177,7 +178,7 @@ fn domain_sound(grid: Grid) -> bool
 fn limits_fault(total: usize, grid: Grid) -> u32
     ensures { λ r. ⌜ r ≡ limitsFault total grid ⌝ }
 {
-    let sound = domain_sound(grid);
+    let sound = given_sound(grid);
     if total > MOST_PARAMETERS {
         return 7;
     }

@@ -1,6 +1,6 @@
 // Public crate: what a refused call says, and the answer of a call that gives nothing but what it wrote.
 
-// Document 01's number, and what that number carries (0 where it carries nothing).
+// The number of a refusal (R3.1), and what it carries (R3.2), 0 where it carries nothing.
 pub struct Refusal {
     pub number: u32,
     pub carried: usize,

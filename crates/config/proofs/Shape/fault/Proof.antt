@@ -8,16 +8,24 @@ use Rattle.refusals.specs.Refusals.{_otherwise_, _then_}
 use Rattle.spline.specs.declared.Grid.{Grid}
 use Rattle.config.specs.declared.Counted.{Counted}
 use Rattle.config.specs.declared.Shape.{Shape}
-use Rattle.config.specs.Config.{intervalsSound, movesMinusOne}
+use Rattle.config.specs.Config.{intervalsSound, domainSound, unitGrid}
 use Rattle.config.specs.Fold.{countedFault, shapeFault}
+use Rattle.config.proofs.Tests.{intervals-between}
+use Rattle.config.proofs.Threshold.{threshold}
 use borrow.Author.Needs.{needs}
 use Rattle.config.proofs.Shape.fault.Statement.{statement}
 use Rattle.config.proofs.Shape.fault.Tie as tie
 
--- ---- what is left to check past 1 and 2, and past 3 and 4 too
+-- ---- 1, what is left to check past 1 and 2, and past 3 and 4 too
+stops1 : (s : Shape) (count : ℕ) (g : Grid) → ltb count 2 || s .zero ≡ true → 1 ≡ shapeFault s count g
+unfolding shapeFault
+stops1 s count g e = rw e
+
 abbrev from3 : Grid → Counted → ℕ
 from3 g total =
-    intervalsSound (g .intervals) otherwise 3 then movesMinusOne (g .intervals) otherwise 4 then countedFault total g
+    intervalsSound (g .intervals) otherwise 3
+    then domainSound (unitGrid (g .intervals)) otherwise 4
+    then countedFault total g
 
 module _ (s : Shape) (count : ℕ) (g : Grid) (shape : ltb count 2 || s .zero ≡ false) (products : s .wide ≡ false) where
   past2 : shapeFault s count g ≡ from3 g (s .total)
@@ -27,14 +35,15 @@ module _ (s : Shape) (count : ℕ) (g : Grid) (shape : ltb count 2 || s .zero �
   stops3 : intervalsSound (g .intervals) ≡ false → 3 ≡ shapeFault s count g
   stops3 e = sym (past2 ∙ rw e)
 
+  moves : intervalsSound (g .intervals) ≡ true → domainSound (unitGrid (g .intervals)) ≡ ltb (g .intervals) 67108862
+  moves e = let some = intervals-between (g .intervals) e in threshold (g .intervals) (some .0) (some .1)
+
   stops4 : intervalsSound (g .intervals) ≡ true → 67108862 ≤ g .intervals → 4 ≡ shapeFault s count g
-  unfolding movesMinusOne
-  stops4 e h = sym (past2 ∙ rw (e, le-ltb _ _ h))
+  stops4 e h = sym (past2 ∙ rw (e, moves e, le-ltb _ _ h))
 
   past4 : intervalsSound (g .intervals) ≡ true → g .intervals < 67108862
       → shapeFault s count g ≡ countedFault (s .total) g
-  unfolding movesMinusOne
-  past4 e h = past2 ∙ rw (e, lt-ltb _ _ h)
+  past4 e h = past2 ∙ rw (e, moves e, lt-ltb _ _ h)
 
 -- ---- from place to place
 abbrev tested3 : tie.Else4 → tie.Else3
@@ -51,23 +60,12 @@ intervals-sound : (c : tie.Else3) → intervalsSound (called (tested2 c) .before
 intervals-sound c =
     let call = called (tested2 c) .intervals-sound in sym (call .ensures) ∙ not-false (call .result) (c .if3 .left)
 
--- past 4 the total decides
-left-at5 : (c : tie.Else4) (total : Counted)
-    → let a = called (tested2 (tested3 c)) .before .args in
-    a .self .total ≡ total → countedFault total (a .grid) ≡ shapeFault (a .self) (a .count) (a .grid)
-left-at5 c total e =
-    let at2 = tested2 (tested3 c) in
-    let g = called at2 .before .args .grid in
-    sym (past4 _ _ _ (at2 .before .if1 .left) (at2 .if2 .left) (intervals-sound (tested3 c)) (c .if4 .left)
-    ∙ ap (λ (t : Counted). countedFault t g) e)
-
 -- ---- the needs
 intervals-sound-requires : tie.Need-intervals-sound-requires
 intervals-sound-requires c κs = search needs
 
 returns : tie.Need-returns
-unfolding shapeFault
-returns c = rw (c .if1 .taken)
+returns c = stops1 _ _ _ (c .if1 .taken)
 
 returns-2 : tie.Need-returns-2
 unfolding shapeFault
@@ -93,6 +91,16 @@ enum-known-total-2 c = search needs
 
 limits-fault-requires : tie.Need-limits-fault-requires
 limits-fault-requires c κs = search needs
+
+-- past 4 the total decides
+left-at5 : (c : tie.Else4) (total : Counted)
+    → let a = called (tested2 (tested3 c)) .before .args in
+    a .self .total ≡ total → countedFault total (a .grid) ≡ shapeFault (a .self) (a .count) (a .grid)
+left-at5 c total e =
+    let at2 = tested2 (tested3 c) in
+    let g = called at2 .before .args .grid in
+    sym (past4 _ _ _ (at2 .before .if1 .left) (at2 .if2 .left) (intervals-sound (tested3 c)) (c .if4 .left)
+    ∙ ap (λ (t : Counted). countedFault t g) e)
 
 returns-5 : tie.Need-returns-5
 returns-5 c = left-at5 (c .before .before .before) _ (c .before .total .given .1)

@@ -1,5 +1,5 @@
 -- What the steps of a layer backwards by four slopes promise and ask; no part of the meaning. Definitions only.
-use Prim.Native.Nat.{ℕ, _*_}
+use Prim.Native.Nat.{ℕ, _+_, _*_}
 use mathlib.Core.List.{List}
 use lib.ListN.{drop}
 use lib.Ieee.{Float}
@@ -8,11 +8,11 @@ use Rattle.floats.specs.Sums.{at}
 use Rattle.local_basis.specs.declared.Four.{Four}
 use Rattle.layers.specs.Basis.{Basis}
 use Rattle.fast_forward.specs.Inputs.{edgeFour}
-use Rattle.gradients.specs.Gradient.{backOf, edgeAt}
+use Rattle.gradients.specs.Gradient.{backOf}
 
 -- the gradient at x, the i-th of w inputs: the outputs in their order, from +0.0
 abbrev pub backAt : Basis → List Float → ℕ → Float → List Float → ℕ → ℕ → Float
-backAt B ps w x ups i o = backOf B (edgeAt B ps w o i) x (at ups o)
+backAt B ps w x ups i o = backOf B (drop ((o * w + i) * B .stride) ps) x (at ups o)
 
 -- the same from the rise of SiLU and four slopes at x, where the edges' parameters lie at `first` in rows of `row`
 -- numbers

@@ -1,4 +1,4 @@
--- One layer of a row's gradients: source 000's `backward_accumulate` cell by cell, sums in its order. Definitions only.
+-- R10.4, R10.5: one layer of a row's gradients, cell by cell, sums in the stated order. Definitions only.
 use Prim.Native.Nat.{ℕ, zero, suc, _+_, _*_}
 use mathlib.Core.List.{List}
 use lib.ListN.{length, drop}
@@ -9,31 +9,26 @@ use Rattle.layers.specs.Basis.{Basis}
 use Rattle.layers.specs.Layer.{dotOf}
 
 -- ---- one edge whose parameters begin the list, at the input x, with what comes from above
--- what a row adds to the gradient of its s-th parameter: base weight, spline weight, coefficients
+-- R10.4: what a row adds to the gradient of its s-th parameter: base weight, spline weight, coefficients
 unfoldable pub slotOf : Basis → List Float → Float → Float → ℕ → Float
 slotOf B ps x up zero = up ⊗ B .silu x
 slotOf B ps x up (suc zero) = up ⊗ dotOf B (B .value) (drop 2 ps) x
 slotOf B ps x up (suc (suc k)) = up ⊗ at ps 1 ⊗ B .value k x
 
--- what it hands back to its input
+-- R10.5: what it hands back to its input
 unfoldable pub backOf : Basis → List Float → Float → Float → Float
 backOf B ps x up = up ⊗ ((at ps 0 ⊗ B .siluSlope x) ⊕ (at ps 1 ⊗ dotOf B (B .slope) (drop 2 ps) x))
 
--- ---- one layer of w inputs xs whose parameters begin the list, with n upstream gradients ups
-abbrev pub edgeAt : Basis → List Float → ℕ → ℕ → ℕ → List Float
-edgeAt B ps w o i = drop ((o * w + i) * B .stride) ps
-
--- the gradient at input i: the outputs in their order, from +0.0
-abbrev pub backTerm : Basis → List Float → ℕ → List Float → List Float → ℕ → ℕ → Float
-backTerm B ps w xs ups i o = backOf B (edgeAt B ps w o i) (at xs i) (at ups o)
-
+-- ---- one layer of inputs xs whose parameters begin the list, with upstream gradients ups
+-- R10.5: the gradient at input i: the outputs in their order, from +0.0
 abbrev pub inputGradient : Basis → List Float → List Float → List Float → ℕ → Float
-inputGradient B ps xs ups i = sumTo (backTerm B ps (length xs) xs ups i) (length ups)
+inputGradient B ps xs ups i =
+    sumTo (λ (o : ℕ). backOf B (drop ((o * length xs + i) * B .stride) ps) (at xs i) (at ups o)) (length ups)
 
 unfoldable pub backLayer : Basis → List Float → List Float → List Float → List Float
 backLayer B ps xs ups = tabulate (inputGradient B ps xs ups) (length xs)
 
--- what the layer's parameters receive: "edges output by output, input by input"
+-- R10.4: what the layer's parameters receive, edges output by output, input by input (R2.6)
 abbrev pub edgeSlots : Basis → List Float → List Float → Float → ℕ → List Float
 edgeSlots B ps xs up i = tabulate (slotOf B (drop (i * B .stride) ps) (at xs i) up) (B .stride)
 

@@ -1,5 +1,5 @@
-// Inner crate: the gradients of source 000's backward pass (specs/), and one layer of it: what a row adds to the
-// gradients of the layer's parameters, and what it hands back to the layer's inputs.
+// Inner crate: a row's gradients (R10.4, R10.5; specs/), and one layer of them: what a row adds to the gradients of the
+// layer's parameters, and what it hands back to the layer's inputs.
 ghost use mathlib.Core.Path.{_≡_};
 ghost use Prim.Native.Nat.{_+_, _*_, _≤_, _<_};
 ghost use lib.ListN.{length};

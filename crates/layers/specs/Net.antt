@@ -9,23 +9,25 @@ use Rattle.spline.specs.Spline.{valueOf, slopeOf}
 use Rattle.spline.specs.Activation.{siluOf, siluDerivativeOf}
 use Rattle.layers.specs.Basis.{Basis}
 
--- a layer's cubic basis values and their slopes, by index
+-- R6.7: a layer's basis values and slopes, by index
 pub record Curve : Type 0 where
   pub value : ℕ → Float → Float
   pub slope : ℕ → Float → Float
 
+-- R2.2: what the layers of a network are worked out from
 pub record Net : Type 0 where
-  -- "g + 3 coefficients" an edge, "in × out × (g + 5)" parameters a layer
+  -- R2.3: g + 3 coefficients and g + 5 parameters an edge
   pub coefficients : ℕ
   pub stride : ℕ
   -- by the layer's number
   pub curve : ℕ → Curve
+  -- R8.1, R8.2: SiLU and its derivative
   pub silu : Float → Float
   pub siluSlope : Float → Float
-  -- "`dot` starts at +0.0 here"
+  -- R8.3: where `dot` starts: at +0.0
   pub start : Float
 
--- the network as layer l sees it
+-- R2.2: the network as layer l sees it
 abbrev pub basisAt : Net → ℕ → Basis
 basisAt N l = record {
   coefficients = N .coefficients;
@@ -37,7 +39,7 @@ basisAt N l = record {
   start = N .start;
 }
 
--- one grid for all layers, and a layer of that network
+-- R2.1: one grid for all layers, and a layer of that network
 abbrev pub netOf : Grid → Net
 netOf g = record {
   coefficients = g .intervals + 3;

@@ -1,13 +1,13 @@
 -- `gradients::input_gradient` meets its contract: after o turns the sum has o outputs. Assumes nothing.
 use borrow.Author.Needs.{needs}
 use mathlib.Core.Path.{_≡_, ap, _∙_}
-use Prim.Native.Nat.{_+_, _*_, _-_, _≤_}
+use Prim.Native.Nat.{ℕ, _+_, _*_, _-_, _≤_}
 use native.Mathlib.Omega.{arith}
-use lib.ListN.{length}
-use Rattle.floats.specs.Sums.{sumTo}
+use lib.ListN.{length, drop}
+use Rattle.floats.specs.Sums.{sumTo, at}
 use Rattle.floats.proofs.Loops.{sum-none, sum-more, rest, rest-length}
 use Rattle.layers.specs.Net.{basisOf}
-use Rattle.gradients.specs.Gradient.{backOf, backTerm}
+use Rattle.gradients.specs.Gradient.{backOf}
 use Rattle.gradients.specs.Steps.{backWith}
 use Rattle.gradients.proofs.Rooms.{edge-room, grow}
 use Rattle.gradients.proofs.input_gradient.Statement.{statement}
@@ -15,7 +15,8 @@ use Rattle.gradients.proofs.input_gradient.Tie as tie
 
 abbrev Inv-loop : tie.InvT-loop
 Inv-loop grid params inputs ups i stride w x rise gradient₀ o₀ o-end gradient o =
-    (o ≤ length ups) × (gradient ≡ sumTo (backTerm (basisOf grid) params (length inputs) inputs ups i) o)
+    (o ≤ length ups) × (gradient ≡ sumTo (λ (k : ℕ).
+    backOf (basisOf grid) (drop ((k * length inputs + i) * (grid .intervals + 5)) params) (at inputs i) (at ups k)) o)
 
 abbrev μ-loop : tie.MeasureT-loop
 μ-loop grid params inputs ups i stride w x rise gradient₀ o₀ o-end gradient o = length ups - o

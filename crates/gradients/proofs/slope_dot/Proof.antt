@@ -1,16 +1,17 @@
 -- `gradients::slope_dot` meets its contract: after k turns the sum has k terms. Assumes nothing.
 use mathlib.Core.Path.{_≡_, ap, _∙_}
-use Prim.Native.Nat.{_≤_, _-_}
+use Prim.Native.Nat.{ℕ, _≤_, _-_}
 use native.Mathlib.Omega.{arith}
-use Rattle.floats.specs.Sums.{sumTo, sumFrom}
+use Rattle.floats.specs.Binary32.{_⊗_}
+use Rattle.floats.specs.Sums.{sumTo, sumFrom, at}
 use Rattle.floats.proofs.Loops.{sum-none, sum-more}
 use Rattle.layers.specs.Net.{basisOf}
-use Rattle.layers.specs.Layer.{termOf, dotOf}
+use Rattle.layers.specs.Layer.{dotOf}
 use Rattle.gradients.proofs.slope_dot.Statement.{statement}
 use Rattle.gradients.proofs.slope_dot.Tie as tie
 
 abbrev Inv-loop : tie.InvT-loop
-Inv-loop grid coefficients x n sum₀ k₀ sum k = (k ≤ n) × (sum ≡ sumTo (termOf (basisOf grid .slope) coefficients x) k)
+Inv-loop grid coefficients x n sum₀ k₀ sum k = (k ≤ n) × (sum ≡ sumTo (λ (j : ℕ). at coefficients j ⊗ basisOf grid .slope j x) k)
 
 abbrev μ-loop : tie.MeasureT-loop
 μ-loop grid coefficients x n sum₀ k₀ sum k = n - k

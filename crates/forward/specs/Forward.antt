@@ -1,6 +1,5 @@
--- A single `forward`: "takes its whole slice as one row .. hands back the front of whichever of the two work slices holds the
--- last layer; the rest of both W-parts is +0.0. On refusal the part is empty. A lent number holds the refusal's number alone,
--- or 0 on success" (document 01). Definitions only.
+-- R8.8, R8.9: a single `forward` takes its whole slice as one row (R5.6) and hands back the front of the work slice
+-- that holds the last layer, an empty part on refusal. Definitions only.
 use Prim.Native.Nat.{ℕ, _-_, _%_, _≤_}
 use mathlib.Core.Path.{_≡_}
 use mathlib.Core.Bool.{Bool, cond, not}
@@ -16,19 +15,19 @@ use Rattle.layers.specs.Widths.{widestIn}
 use Rattle.passes.specs.Pass.{rowRefusal, outputsOf}
 use Rattle.admission.specs.Admission.{upTo9}
 
--- past check 9: 11, then the row's 14, 15, 20
+-- R3.4: past check 9: 11, then the row's 14, 15, 20
 unfoldable pub passRefusal : Net → List Float → List ℕ → List Float → ℕ
 passRefusal N ps ws xs = allFinite ps otherwise 11 then rowRefusal N ps ws xs
 
--- of K widths, the last of K - 1 layers lies in the first slice where K - 1 is odd
+-- R8.8: of K widths, the last of K - 1 layers lies in the first slice where K - 1 is odd
 unfoldable pub inFirst : List ℕ → Bool
 inFirst ws = not (eqb ((length ws - 1) % 2) 0)
 
--- a work slice of which W numbers are needed: what it holds in front, then +0.0, then what it held
+-- R8.9: a work slice of which W numbers are needed: what it holds in front, then +0.0, then what it held
 unfoldable pub fronted : List Float → ℕ → List Float → List Float
 fronted front widest s = front ++ (zeros (widest - length front) ++ drop widest s)
 
--- ---- what a call leaves: the lent number, the part handed back, and both work slices
+-- ---- R8.9, R3.6: what a call leaves: the lent number, the part handed back, and both work slices
 module _ (N : Net) (ws : List ℕ) (g : Grid) (ps xs a b : List Float) where
   abbrev checks : ℕ
   checks = upTo9 ws g (length ps) (length a) (length b)
@@ -45,7 +44,14 @@ module _ (N : Net) (ws : List ℕ) (g : Grid) (ps xs a b : List Float) where
   unfoldable pub forwardSecond : List Float
   forwardSecond = past checks (fronted (cond (inFirst ws) [] forwardPart) (widestIn ws) b) b
 
--- all but the handing back: the number k, how many outputs n there are, both slices, and that n lies within either
+-- R8.9: what the part holds, where it lies, also when it is empty, and the lent number k
+pub record Handed (N : Net) (ws : List ℕ) (g : Grid) (ps xs a b : List Float) (firstPlace secondPlace : ℕ × ℕ)
+    (part : List Float) (place : ℕ × ℕ) (k : ℕ) : Type 0 where
+  pub holds : part ≡ forwardPart N ws g ps xs a b
+  pub lies : place ≡ cond (inFirst ws) firstPlace secondPlace
+  pub number : k ≡ forwardRefusal N ws g ps xs a b
+
+-- R8.9: all but the handing back: the number k, how many outputs n, both slices, and that n lies within either
 pub record Forwarded (N : Net) (ws : List ℕ) (g : Grid) (ps xs a b : List Float) (k n : ℕ) (a′ b′ : List Float) : Type 0 where
   pub number : k ≡ forwardRefusal N ws g ps xs a b
   pub count : n ≡ length (forwardPart N ws g ps xs a b)

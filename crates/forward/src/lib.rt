@@ -11,10 +11,11 @@ ghost use denote.Builtin as builtin;
 ghost use Rattle.floats.specs.Sums.{zeros};
 ghost use Rattle.layers.specs.Net.{netOf, Net};
 ghost use Rattle.passes.specs.Turns.{Fits};
-ghost use Rattle.forward.specs.Forward.{inFirst, forwardFirst, forwardSecond, forwardPart, forwardRefusal, Forwarded};
+ghost use Rattle.forward.specs.Forward.{inFirst, forwardFirst, forwardSecond, Handed, Forwarded};
 ghost use Rattle.forward.specs.Steps.{Passed, Swept};
 use admission::check_work;
 use config::Checked;
+use layer_cursor::Layer;
 use spline::Grid;
 
 // 11, and then the row.
@@ -32,7 +33,8 @@ fn pass(
 {
     if floats::all_finite(model) {
         let table = exponential::scaled_powers();
-        return passes::run_row(grid, &table, widths, model, row, first, second);
+        let start = Layer::first(widths, grid);
+        return passes::run_row(start, grid, &table, widths, model, row, first, second);
     }
     11
 }
@@ -105,8 +107,9 @@ fn work(
     }
 }
 
-// One row through all layers. The part handed back lies in the first slice or in the second, by the number of layers, and is
-// empty where the lent number says why. `finally` says what either slice holds once the part is given up.
+// One row through all layers. The part handed back lies in front of the first slice or of the second, by the number of
+// layers, and is empty where the lent number says why. `finally` says what either slice holds once the part is given
+// up.
 pub fn forward<'a>(
     number: &mut u32,
     widths: &[usize],
@@ -123,10 +126,8 @@ pub fn forward<'a>(
         (finally builtin.f32 (second .entry .name)
         (forwardSecond (netOf grid) (now (widths .entry)) grid (now (model .entry)) (now (row .entry))
         (now (first .entry)) (now (second .entry)))))
-        ∗ ⌜ (now r ≡ forwardPart (netOf grid) (now (widths .entry)) grid (now (model .entry)) (now (row .entry))
-        (now (first .entry)) (now (second .entry)))
-        × (now (number .exit) ≡ forwardRefusal (netOf grid) (now (widths .entry)) grid (now (model .entry)) (now (row .entry))
-        (now (first .entry)) (now (second .entry))) ⌝ }
+        ∗ ⌜ Handed (netOf grid) (now (widths .entry)) grid (now (model .entry)) (now (row .entry)) (now (first .entry))
+        (now (second .entry)) (first .entry .ptr) (second .entry .ptr) (now r) (r .ptr) (now (number .exit)) ⌝ }
 {
     let n = work(number, widths, grid, model, row, first, second);
     let lies = lies_in_first(widths);

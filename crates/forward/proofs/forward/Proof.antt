@@ -51,7 +51,7 @@ use Rattle.spline.specs.declared.Grid.{Grid}
 use Rattle.spline.proofs.Grid as grid
 use Rattle.spline.proofs.Grid.Laws as grid-laws
 use Rattle.layers.specs.Net.{netOf}
-use Rattle.forward.specs.Forward.{inFirst, forwardRefusal, forwardPart, forwardFirst, forwardSecond, Forwarded}
+use Rattle.forward.specs.Forward.{inFirst, forwardFirst, forwardSecond, Handed, Forwarded}
 use Rattle.forward.proofs.Passing.{part-is}
 use Rattle.either_front.proofs.Again.{LentAgain, lends-again, comes-back}
 use Rattle.forward.proofs.work as work
@@ -364,7 +364,7 @@ module _ {M : Type 1} (𝓤 : URA M) (H : Heap 𝓤) (A : Atoms 𝓤) (W : Given
         move ! (0 ∷ 1 ∷ 3 ∷ 4 ∷ 2 ∷ []) $ done !
 
     abbrev Fronts : RefT (List Float) → Type 0
-    Fronts r = r .now ≡ take (z .n) (cond here (z .first) (z .second))
+    Fronts r = (r .now ≡ take (z .n) (cond here (z .first) (z .second))) × (r .ptr ≡ cond here (ba, oa) (bb, ob))
 
     abbrev Front : Val → RefT (List Float) → Item 𝓤
     Front w r = given (Fronts r) (‵ (flft κ q) ⊛ (Part w r ⊛ BothEnd (z .first) (z .second)))
@@ -398,8 +398,8 @@ module _ {M : Type 1} (𝓤 : URA M) (H : Heap 𝓤) (A : Atoms 𝓤) (W : Given
         BothEnd (z .first) (z .second) ∷ Quiet ∷ ‵ (flft κ₁ q₁) ∷ ‵ (flft κ q) ∷ ‵ (fres γc (u32 .coded .code (z .number))) ∷ Shared
         ∷ Part w r ∷ []
 
-    exits : Did z → r .now ≡ take (z .n) (cond here (z .first) (z .second)) → ent 𝓤 (⋆ 𝓤 H A Out) (Post w)
-    exits k e =
+    exits : (n-fits : z .n < 2 ^ 64) → Did z → Fronts z n-fits r → ent 𝓤 (⋆ 𝓤 H A Out) (Post w)
+    exits n-fits k e =
         qed W Out ∵ rewrite ! 0 (λ (l : List Float). BothEnd l (z .second)) (k .first) refl $
         rewrite ! 0 (λ (l : List Float). BothEnd firstIs l) (k .second) refl $
         suffices ! _ (ends-at 𝓤 H A forward.ended stayed (forward.clauses 𝓤 H A mem run) W ((κs, qs, tt, arg γa γb, at), tt) w r last
@@ -428,12 +428,15 @@ module _ {M : Type 1} (𝓤 : URA M) (H : Heap 𝓤) (A : Atoms 𝓤) (W : Given
         F = mean 𝓤 H A (BothEnd firstIs secondIs)
 
         φ : Type 0
-        φ =
-            (r .now ≡ forwardPart (netOf g) (wx .now) g (mx .now) (rx .now) xs ys)
-            × (z .number ≡ forwardRefusal (netOf g) (wx .now) g (mx .now) (rx .now) xs ys)
+        φ = Handed (netOf g) (wx .now) g (mx .now) (rx .now) xs ys (ba, oa) (bb, ob) (r .now) (r .ptr) (z .number)
 
         said : φ
-        said = (e ∙ part-is (netOf g) (wx .now) g (mx .now) (rx .now) xs ys (z .number) (z .n) (z .first) (z .second) k, k .number)
+        said = record {
+          holds = e .0
+              ∙ part-is (netOf g) (wx .now) g (mx .now) (rx .now) xs ys (z .number) (z .n) (z .first) (z .second) k;
+          lies = e .1;
+          number = k .number;
+        }
 
   -- ---- the walk
   module _ (C : Calls 𝓤 H) (Λ : Loops 𝓤 H) (fm : FmC 𝓤 H (W .laws) C) (known : Triple 𝓤 (C #work) (WorkC 𝓤 H A mem run))
@@ -546,7 +549,8 @@ module _ {M : Type 1} (𝓤 : URA M) (H : Heap 𝓤) (A : Atoms 𝓤) (W : Given
         move ! (21 ∷ 22 ∷ []) $ free1 ! $ move ! (19 ∷ 20 ∷ []) $ free1 ! $ move ! (17 ∷ 18 ∷ []) $ free1 ! $
         move ! (15 ∷ 16 ∷ []) $ free1 ! $ move ! (13 ∷ 14 ∷ []) $ free1 ! $ move ! (11 ∷ 12 ∷ []) $ free1 ! $
         move ! (9 ∷ 10 ∷ []) $ free1 ! $ free0 ! $
-        keep ! (1 ∷ 5 ∷ 3 ∷ 2 ∷ 4 ∷ 6 ∷ 0 ∷ []) $ by ! (exits w₂ r z (e .did) e₂)))))))))))))))))))))))))))))))))
+        keep ! (1 ∷ 5 ∷ 3 ∷ 2 ∷ 4 ∷ 6 ∷ 0 ∷ []) $
+        by ! (exits w₂ r z (e .fits) (e .did) e₂)))))))))))))))))))))))))))))))))
 
 module _ {M : Type 1} (𝓤 : URA M) (H : Heap 𝓤) (A : Atoms 𝓤) (W : Given 𝓤 H A) (mem : Memory → SProp 𝓤) (run : Routine → Fun 𝓤) where
   forward-walks : (C : Calls 𝓤 H) (Λ : Loops 𝓤 H) → FmC 𝓤 H (W .laws) C → Triple 𝓤 (C #work) (WorkC 𝓤 H A mem run)

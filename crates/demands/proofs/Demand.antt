@@ -12,13 +12,13 @@ use Rattle.refusals.proofs.Firsts.{both-pass}
 use Rattle.spline.specs.declared.Grid.{Grid}
 use Rattle.layers.specs.Net.{Net, netOf}
 use Rattle.layers.specs.Widths.{inputWidth, outputWidth, parametersIn, widestIn}
-use Rattle.config.specs.Config.{carriedBy}
+use Rattle.config.specs.Config.{carriedBy, rowCarried}
 use Rattle.admission.specs.Admission.{upTo9, upTo9InTraining, swept}
-use Rattle.passes.specs.Pass.{rowsOf}
+use Rattle.passes.specs.Pass.{rowsOf, rowsRefusal, rowsDone, from11To18}
 use Rattle.batch_gradients.specs.Calls.{Full}
 use Rattle.forward.specs.Forward.{passRefusal, forwardRefusal, forwardPart, forwardFirst, forwardSecond}
-use Rattle.prediction.specs.Predict.{from10To11, rowsRefusal, rowsDone, rowCarried, outputsOver, upTo11, predictAnswer}
-use Rattle.loss.specs.Loss.{from11To18, upTo18, lossAnswer}
+use Rattle.prediction.specs.Predict.{from10To11, outputsOver, upTo11, predictAnswer}
+use Rattle.loss.specs.Loss.{upTo18, lossAnswer}
 use Rattle.training.specs.Train.{from11To19, modelAfter, faultAt, trainingOf, upTo19, trainFault, trainDone}
 use Rattle.demands.specs.Silent.{Places, Differ}
 use Rattle.demands.specs.Readings.{RowReads, PredictReads, LossReads, TrainReads}
@@ -116,7 +116,7 @@ module _ (ws : List ℕ) (g : Grid) (D : Places) (ps qs : List Float) (differ : 
     cleared-same needed s = rw (← differ .size)
 
     start-same : upTo19 N ws g ps xs ts rate gs W ≡ upTo19 N ws g qs xs ts rate gs W
-    unfolding upTo19 from11To19
+    unfolding upTo19 from11To18 from11To19
     start-same = rw (differ .finite .0, differ .finite .1, ← differ .size)
 
     started : upTo19 N ws g ps xs ts rate gs W ≡ 0 → from11To19 ps ws xs ts rate ≡ 0
@@ -160,7 +160,7 @@ module _ (ws : List ℕ) (g : Grid) (D : Places) (ps qs : List Float) (differ : 
           rw (← start-same) (left-by (upTo19 N ws g ps xs ts rate gs W) _ _ (λ z.
           models-left two xs ts rate steps (full two xs ts rate steps (started z)) (above two xs ts rate steps (started z)) (reads z)))
 
-  -- "answers both alike"
+  -- R17.1: both models are answered alike
   pub demand-3 : Demand ws g D ps qs
   demand-3 =
       record {

@@ -9,15 +9,14 @@ use Rattle.refusals.specs.Refusals.{_then_, past, outcomeOf}
 use Rattle.spline.specs.declared.Grid.{Grid}
 use Rattle.layers.specs.Net.{netOf}
 use Rattle.layers.specs.Widths.{parametersIn, widestIn}
-use Rattle.config.specs.Config.{carriedBy}
+use Rattle.config.specs.Config.{carriedBy, rowCarried}
 use Rattle.touched_layer.specs.Touched.{blank}
 use Rattle.passes.specs.Pass.{rowsOf}
 use Rattle.admission.specs.Admission.{upTo9, upTo9InTraining}
 use Rattle.forward.specs.Forward.{inFirst, fronted, forwardRefusal, forwardPart, forwardFirst, forwardSecond}
-use Rattle.prediction.specs.Predict.{rowCarried, upTo11}
+use Rattle.prediction.specs.Predict.{upTo11}
 use Rattle.loss.specs.Loss.{lossOf, upTo18}
-use Rattle.visit_map.specs.Visits.{visitRefusal, visitCarried, visitMarks}
-use Rattle.visit_map.specs.Visits as visits
+use Rattle.visit_map.specs.Visits.{mapUpTo11, visitRefusal, visitCarried, visitMarks}
 use Rattle.training.specs.Train.{trainingOf}
 use Rattle.demands.specs.Start.{fromMinusZero, StartHidden}
 use Rattle.demands.proofs.Start.{pass-start, outputs-start, rows-refusal-start, rows-done-start, outputs-over-start, marks-start}
@@ -49,7 +48,7 @@ module _ (ws : List ℕ) (g : Grid) (ps xs : List Float) where
 
     module _ (ms : List ℕ) where
       abbrev checks : ℕ
-      checks = visits.upTo11 ws g ps (length a) (length b) (length ms)
+      checks = mapUpTo11 ws g ps (length a) (length b) (length ms)
 
       visit-refusal : visitRefusal (netOf g) ws g ps xs a b ms ≡ visitRefusal (fromMinusZero g) ws g ps xs a b ms
       unfolding visitRefusal

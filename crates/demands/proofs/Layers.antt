@@ -12,8 +12,8 @@ use Rattle.floats.specs.Sums.{at}
 use Rattle.floats.proofs.Sums.{Plain, Swap, dot-same, sum-ext}
 use Rattle.floats.proofs.Loops.{tab-ext}
 use Rattle.layers.specs.Basis.{Basis}
-use Rattle.layers.specs.Layer.{dotOf, edgeWith, edgeOf, inputOf, nodeOf, outputOf, layerOf}
-use Rattle.gradients.specs.Gradient.{slotOf, backOf, backTerm, inputGradient, backLayer, edgeSlots, nodeSlots, layerSlots}
+use Rattle.layers.specs.Layer.{dotOf, edgeWith, edgeOf, nodeOf, layerOf}
+use Rattle.gradients.specs.Gradient.{slotOf, backOf, inputGradient, backLayer, edgeSlots, nodeSlots, layerSlots}
 use Rattle.gradients.proofs.Adding.{flat-ext}
 
 -- the weights are the same, and each coefficient is, or its value and slope at x are zero and both are finite
@@ -64,9 +64,7 @@ module _ (B : Basis) (begins : Plain (B .start)) where
   pub layer-same : (ps qs xs : List Float) (n : ℕ) → LayerAlike B xs n ps qs → layerOf B ps xs n ≡ layerOf B qs xs n
   unfolding layerOf nodeOf
   layer-same ps qs xs n h =
-      tab-ext (outputOf B ps xs) (outputOf B qs xs) n (λ o ol.
-      sum-ext zero32 (inputOf B (drop (o * (length xs * B .stride)) ps) xs) (inputOf B (drop (o * (length xs * B .stride)) qs) xs)
-      (length xs) (λ i il. edge-same (at xs i) _ _ (h o i ol il)))
+      tab-ext _ _ n (λ o ol. sum-ext zero32 _ _ (length xs) (λ i il. edge-same (at xs i) _ _ (h o i ol il)))
 
   pub slots-same : (ps qs xs ups : List Float) → LayerAlike B xs (length ups) ps qs → layerSlots B ps xs ups ≡ layerSlots B qs xs ups
   unfolding layerSlots
@@ -80,7 +78,7 @@ module _ (B : Basis) (begins : Plain (B .start)) where
   unfolding backLayer
   backs-same ps qs xs ups h =
       tab-ext (inputGradient B ps xs ups) (inputGradient B qs xs ups) (length xs) (λ i il.
-      sum-ext zero32 (backTerm B ps (length xs) xs ups i) (backTerm B qs (length xs) xs ups i) (length ups) (λ o ol.
+      sum-ext zero32 _ _ (length ups) (λ o ol.
       ap (λ (e : List Float). backOf B e (at xs i) (at ups o)) (edge-place o (length xs) i (B .stride) ps)
       ∙ back-same (at xs i) _ _ (h o i ol il) (at ups o)
       ∙ ap (λ (e : List Float). backOf B e (at xs i) (at ups o)) (sym (edge-place o (length xs) i (B .stride) qs))))

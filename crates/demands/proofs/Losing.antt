@@ -15,7 +15,7 @@ use Rattle.refusals.specs.Refusals.{_otherwise_, _then_, firstTo}
 use Rattle.refusals.proofs.Firsts.{both-pass, test-passes, first-before, first-clear}
 use Rattle.layers.specs.Net.{Net}
 use Rattle.layers.specs.Widths.{inputWidth, outputWidth}
-use Rattle.batches.specs.Batch.{rowsIn, rowAt, rowsFault, rowFaultAt, batchFault}
+use Rattle.batches.specs.Batch.{rowsIn, rowAt, rowsFault, batchFault}
 use Rattle.batches.proofs.Rows.{wide-row}
 use Rattle.passes.specs.Pass.{nodesFinite, rowsOf, outputsAt}
 use Rattle.batch_gradients.specs.Calls.{Full}
@@ -37,7 +37,7 @@ full-rows w v xs ts e r h =
     let passed12 = both-pass (eqb n (rowsIn (length ts) v) otherwise 12) after12 e .1 in
     let passed13 = both-pass (not (eqb n 0) otherwise 13) after13 passed12 .1 in
     let inputs = both-pass (rowsFault w 14 15 xs) after15 passed13 .0 in
-    wide-row w 13 15 (rowAt xs w r) (first-clear (rowFaultAt w 14 15 xs) n inputs r h)
+    wide-row w 13 15 (rowAt xs w r) (first-clear _ n inputs r h)
 
 module _ {N : Net} {ws : List ℕ} {D : Places} {ps qs : List Float} (two : Siblings N ws D ps qs) (xs ts : List Float)
     (full : Full (inputWidth ws) xs (rowsOf ws xs)) (reads : LossReads N ws D ps xs ts) where

@@ -12,23 +12,24 @@ use lib.Ieee.Bits.{is-true}
 use lib.Ieee.Scale.{finite}
 use lib.Ieee.Positive.{positive}
 use Rattle.floats.specs.Binary32.{_⊖_, _⊗_, zero32}
-use Rattle.floats.specs.Sums.{at, allFinite, finiteAt}
+use Rattle.floats.specs.Sums.{at, allTo, allFinite}
 use Rattle.floats.proofs.Sums.{update-zero, update-nan}
-use Rattle.floats.proofs.Loops.{tab-length, all-each}
-use Rattle.update.specs.Update.{movedAt, movedFinite, movesFinite, movedOf}
+use Rattle.floats.proofs.Loops.{tab-length, all-each, all-table}
+use Rattle.update.specs.Update.{movedOf}
+use Rattle.update.specs.Calls.{movedAt}
 use Rattle.demands.specs.Silent.{Places, Differ}
 use Rattle.demands.specs.Alike.{LeftAlike}
 use Rattle.demands.proofs.Tests.{all-same}
 use Rattle.demands.proofs.Places.{within-second, finite-both}
 use Rattle.demands.proofs.Cells.{by-length, table-at, table-past}
 
-all-moved : (ps gs : List Float) (rate : Float) → movesFinite ps gs rate ≡ true → allFinite (movedOf ps gs rate) ≡ true
-unfolding movesFinite movedOf allFinite
-all-moved ps gs rate h =
-    let moved = movedAt ps gs rate in
-    rw (tab-length moved (length ps))
-    (sym (all-same (movedFinite ps gs rate) (finiteAt (movedOf ps gs rate)) (length ps) (λ p l before.
-    ap finite (sym (table-at moved (length ps) p l)))) ∙ h)
+-- ---- 23 is a test of each moved parameter
+abbrev movedFinite : List Float → List Float → Float → ℕ → Bool
+movedFinite ps gs rate i = finite (movedAt ps gs rate i)
+
+each-moved : (ps gs : List Float) (rate : Float) → allFinite (movedOf ps gs rate) ≡ allTo (movedFinite ps gs rate) (length ps)
+unfolding movedOf
+each-moved ps gs rate = all-table (movedAt ps gs rate) (length ps)
 
 module _ {per : ℕ} {D : Places} {ps qs : List Float} (differ : Differ per D ps qs) (gs : List Float) (rate : Float)
     (rates : T (positive rate)) (dead : (p : ℕ) → D p ≡ true → (at gs p ≡ zero32) ⊎ (at gs p ≡ nan)) where
@@ -52,10 +53,10 @@ module _ {per : ℕ} {D : Places} {ps qs : List Float} (differ : Differ per D ps
   other-moved p d = ap (λ (x : Float). x ⊖ (rate ⊗ at gs p)) (differ .others p d)
 
   -- ---- 23
-  pub moves-same : movesFinite ps gs rate ≡ movesFinite qs gs rate
-  unfolding movesFinite
+  pub moves-same : allFinite (movedOf ps gs rate) ≡ allFinite (movedOf qs gs rate)
   moves-same =
-      rw (← differ .size) (all-same (movedFinite ps gs rate) (movedFinite qs gs rate) (length ps) (λ p h before. one p (D p) refl))
+      rw (each-moved ps gs rate, each-moved qs gs rate, ← differ .size)
+      (all-same (movedFinite ps gs rate) (movedFinite qs gs rate) (length ps) (λ p h before. one p (D p) refl))
     where
       one : (p : ℕ) (b : Bool) → D p ≡ b → movedFinite ps gs rate p ≡ movedFinite qs gs rate p
       one p false d = ap finite (other-moved p d)
@@ -66,12 +67,11 @@ module _ {per : ℕ} {D : Places} {ps qs : List Float} (differ : Differ per D ps
       ]
 
   -- ---- the models after an update that is not refused
-  module _ (allowed : movesFinite ps gs rate ≡ true) where
+  module _ (allowed : allFinite (movedOf ps gs rate) ≡ true) where
     stays : (p : ℕ) → D p ≡ true → Stay p
-    unfolding movesFinite
     stays p d = elim (set-moved p d) [
       | inl w ↦ w
-      | inr w ↦ absurd (true≢false (sym (all-each (movedFinite ps gs rate) (length ps) allowed p (differ .within p d)) ∙ ap finite (w .0)))
+      | inr w ↦ absurd (true≢false (sym (all-each _ _ (sym (each-moved ps gs rate) ∙ allowed) p (differ .within p d)) ∙ ap finite (w .0)))
     ]
 
     pub moved-left : LeftAlike D ps qs (movedOf ps gs rate) (movedOf qs gs rate)
@@ -97,7 +97,7 @@ module _ {per : ℕ} {D : Places} {ps qs : List Float} (differ : Differ per D ps
     moved-differ =
         record {
           size = moved-left .sizes .0 ∙ differ .size ∙ sym (moved-left .sizes .1);
-          finite = (all-moved ps gs rate allowed, all-moved qs gs rate (sym moves-same ∙ allowed));
+          finite = (allowed, sym moves-same ∙ allowed);
           within = λ p d. subst (λ (n : ℕ). p < n) (sym (moved-left .sizes .0)) (differ .within p d);
           coefficient = differ .coefficient;
           others = moved-left .others;

@@ -12,7 +12,7 @@ use lib.ListN.{length, drop}
 use lib.Seq.{getD-drop}
 use lib.Ieee.{Float, nan}
 use lib.Ieee.Scale.{finite}
-use Rattle.floats.specs.Sums.{at, allFinite, finiteAt}
+use Rattle.floats.specs.Sums.{at, allFinite}
 use Rattle.floats.specs.Zeros.{isZero}
 use Rattle.floats.proofs.Loops.{all-each}
 use Rattle.floats.proofs.Sums.{Plain, Swap}
@@ -71,7 +71,7 @@ at-coefficient per ws l o i k w ps e =
 -- ---- two models
 pub finite-at : (ps : List Float) (p : ℕ) → allFinite ps ≡ true → p < length ps → T (finite (at ps p))
 unfolding allFinite
-finite-at ps p h l = subst T (sym (all-each (finiteAt ps) (length ps) h p l)) tt
+finite-at ps p h l = subst T (sym (all-each _ (length ps) h p l)) tt
 
 module _ {per : ℕ} {D : Places} {ps qs : List Float} (differ : Differ per D ps qs) where
   pub within-second : (p : ℕ) → D p ≡ true → p < length qs

@@ -11,10 +11,10 @@ use Rattle.refusals.proofs.Firsts.{first-clear, first-before}
 use Rattle.layers.specs.Net.{Net}
 use Rattle.layers.specs.Widths.{inputWidth}
 use Rattle.batches.specs.Batch.{rowAt}
-use Rattle.passes.specs.Pass.{rowsOf, rowRefusal, outputsOf, refusalAt, outputsAt}
+use Rattle.passes.specs.Pass.{rowsOf, rowRefusal, outputsOf, refusalAt, outputsAt, rowsRefusal, rowsDone}
 use Rattle.gradients.proofs.Adding.{flat-ext}
 use Rattle.forward.specs.Forward.{passRefusal}
-use Rattle.prediction.specs.Predict.{rowsRefusal, rowsDone, outputsOver}
+use Rattle.prediction.specs.Predict.{outputsOver}
 use Rattle.demands.specs.Silent.{Places}
 use Rattle.demands.specs.Readings.{RowReads, PredictReads}
 use Rattle.demands.proofs.Tests.{past-checks, fault-same, done-same, done-before, done-most}

@@ -18,19 +18,19 @@ use Rattle.floats.proofs.Loops.{tab-ext, tab-length}
 use Rattle.layers.specs.Basis.{Basis}
 use Rattle.layers.specs.Net.{Net, basisAt}
 use Rattle.layers.specs.Widths.{widthAt, inputWidth, outputWidth}
-use Rattle.layers.specs.Layer.{dotOf, edgeWith, edgeOf, nodeOf, outputOf, layerOf}
+use Rattle.layers.specs.Layer.{dotOf, edgeWith, edgeOf, nodeOf, layerOf}
 use Rattle.spline.specs.declared.Grid.{Grid}
-use Rattle.passes.specs.Pass.{nodesOf, outputsOf, nodesFinite, rowRefusal, rowsOf}
+use Rattle.passes.specs.Pass.{nodesOf, outputsOf, nodesFinite, rowRefusal, rowsOf, rowsRefusal, rowsDone}
 use Rattle.batches.specs.Batch.{rowAt}
 use Rattle.refusals.specs.Refusals.{_otherwise_, _then_, firstTo, doneTo, past}
 use Rattle.admission.specs.Admission.{upTo9InTraining}
 use Rattle.gradients.specs.Gradient.{slotOf, backOf, inputGradient, backLayer, layerSlots}
 use Rattle.row_gradients.specs.Backward.{outputGradient, upsOf, rowSlots, rowGradient}
 use Rattle.gradients.proofs.Edges.{layer-length}
-use Rattle.batch_gradients.specs.Accumulate.{allPass, gathered}
-use Rattle.update.specs.Update.{movesFinite, movedOf}
+use Rattle.batch_gradients.specs.Accumulate.{gathered}
+use Rattle.update.specs.Update.{movedOf}
 use Rattle.forward.specs.Forward.{passRefusal}
-use Rattle.prediction.specs.Predict.{rowsRefusal, rowsDone, outputsOver}
+use Rattle.prediction.specs.Predict.{outputsOver}
 use Rattle.touched_layer.specs.Touched.{touches, edgeTouched, nodeTouched, layerTouched}
 use Rattle.touched_row.specs.Touched.{rowTouched}
 use Rattle.visit_map.specs.Visits.{anyTo, byteOf, marksOf}
@@ -88,7 +88,7 @@ module _ (N : Net) (l : ℕ) where
   layer-start : (ps xs : List Float) (n : ℕ) → layerOf up ps xs n ≡ layerOf down ps xs n
   unfolding layerOf nodeOf
   layer-start ps xs n =
-      tab-ext (outputOf up ps xs) (outputOf down ps xs) n (λ o ol.
+      tab-ext _ _ n (λ o ol.
       sum-alike zero32 _ _ (length xs) plain-zero (λ i il. edge-fits _ (at xs i)) (λ i il. edge-alike _ (at xs i)))
 
   back-start : (ps xs us : List Float) → backLayer up ps xs us ≡ backLayer down ps xs us
@@ -238,15 +238,15 @@ module _ (N : Net) where
               subst Plain (sym (table-at (λ (i : ℕ). zero32) (length ps) p
               (subst (λ (n : ℕ). p < n) (tab-length (λ (i : ℕ). zero32) (length ps)) h))) plain-zero
 
-      step-fault-start : (rate : Float) → stepFault over ps ws xs ts rate ≡ stepFault under ps ws xs ts rate
-      unfolding stepFault allPass
-      step-fault-start rate i =
-          allTo (λ (r : ℕ). finite-start (rowAt xs (inputWidth ws) r) i) (rowsOf ws xs) otherwise 20
-          then movesFinite ps (gathered-start i) rate otherwise 23
-
       stepped-start : (rate : Float) → stepped over ps ws xs ts rate ≡ stepped under ps ws xs ts rate
       unfolding stepped
       stepped-start rate i = movedOf ps (gathered-start i) rate
+
+      step-fault-start : (rate : Float) → stepFault over ps ws xs ts rate ≡ stepFault under ps ws xs ts rate
+      unfolding stepFault
+      step-fault-start rate i =
+          allTo (λ (r : ℕ). finite-start (rowAt xs (inputWidth ws) r) i) (rowsOf ws xs) otherwise 20
+          then allFinite (stepped-start rate i) otherwise 23
 
   -- ---- training
   module _ (ws : List ℕ) (ps xs ts : List Float) (rate : Float) where

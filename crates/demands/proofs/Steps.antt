@@ -11,7 +11,7 @@ use lib.ListN.{length}
 use lib.Ieee.{Float, nan}
 use lib.Ieee.Positive.{positive}
 use Rattle.floats.specs.Binary32.{zero32}
-use Rattle.floats.specs.Sums.{at, zeros, sumFrom}
+use Rattle.floats.specs.Sums.{at, zeros, sumFrom, allTo, allFinite}
 use Rattle.floats.proofs.Sums.{sum-ext, sum-dead}
 use Rattle.floats.proofs.Loops.{tab-length, tab-ext, all-each}
 use Rattle.layers.specs.Net.{Net}
@@ -19,10 +19,10 @@ use Rattle.layers.specs.Widths.{inputWidth, outputWidth}
 use Rattle.refusals.specs.Refusals.{_otherwise_, _then_}
 use Rattle.refusals.proofs.Firsts.{both-pass, test-passes}
 use Rattle.batches.specs.Batch.{rowAt}
-use Rattle.passes.specs.Pass.{rowsOf}
+use Rattle.passes.specs.Pass.{rowsOf, finiteRow}
 use Rattle.batch_gradients.specs.Calls.{Full}
-use Rattle.batch_gradients.specs.Accumulate.{passes, allPass, cellOf, gatheredAt, gathered}
-use Rattle.update.specs.Update.{movesFinite, movedOf}
+use Rattle.batch_gradients.specs.Accumulate.{cellOf, gathered}
+use Rattle.update.specs.Update.{movedOf}
 use Rattle.training_step.specs.Step.{scaleOf, gradientOf, stepFault, stepped}
 use Rattle.demands.specs.Silent.{Places, RowSilent}
 use Rattle.demands.specs.Readings.{StepReads}
@@ -37,21 +37,18 @@ use Rattle.demands.proofs.Rows.{gradient-same, gradient-hushed}
 module _ {N : Net} {ws : List ℕ} {D : Places} {ps qs : List Float} (two : Siblings N ws D ps qs) (xs ts : List Float)
     (full : Full (inputWidth ws) xs (rowsOf ws xs)) (rate : Float) (rates : T (positive rate)) (reads : StepReads N ws D ps xs) where
   -- ---- 20
-  passes-same : allPass N ps ws xs (rowsOf ws xs) ≡ allPass N qs ws xs (rowsOf ws xs)
-  unfolding allPass
+  passes-same : allTo (finiteRow N ps ws xs) (rowsOf ws xs) ≡ allTo (finiteRow N qs ws xs) (rowsOf ws xs)
   passes-same =
-      all-same (passes N ps ws xs) (passes N qs ws xs) (rowsOf ws xs) (λ r h before.
+      all-same (finiteRow N ps ws xs) (finiteRow N qs ws xs) (rowsOf ws xs) (λ r h before.
       finite-same two (rowAt xs (inputWidth ws) r) (full r h) (reads r h before))
 
   -- ---- the gradients, where every row passes
-  module _ (passed : allPass N ps ws xs (rowsOf ws xs) ≡ true) where
+  module _ (passed : allTo (finiteRow N ps ws xs) (rowsOf ws xs) ≡ true) where
     row-silent : (r : ℕ) → r < rowsOf ws xs → RowSilent N ws D ps (rowAt xs (inputWidth ws) r)
-    unfolding allPass
-    row-silent r h = reads r h (all-before (passes N ps ws xs) r (rowsOf ws xs) (omega arith) passed)
+    row-silent r h = reads r h (all-before (finiteRow N ps ws xs) r (rowsOf ws xs) (omega arith) passed)
 
-    row-passed : (r : ℕ) → r < rowsOf ws xs → passes N ps ws xs r ≡ true
-    unfolding allPass
-    row-passed r h = all-each (passes N ps ws xs) (rowsOf ws xs) passed r h
+    row-passed : (r : ℕ) → r < rowsOf ws xs → finiteRow N ps ws xs r ≡ true
+    row-passed r h = all-each (finiteRow N ps ws xs) (rowsOf ws xs) passed r h
 
     abbrev scale : Float
     scale = scaleOf (rowsOf ws xs * outputWidth ws)
@@ -71,8 +68,7 @@ module _ {N : Net} {ws : List ℕ} {D : Places} {ps qs : List Float} (two : Sibl
         let long : length (zeros (length ps)) ≡ length ps = tab-length (λ (i : ℕ). zero32) (length ps) in
         let inside = two .differ .within p d in
         let cell : at (gradientOf N ps ws xs ts) p ≡ sumFrom zero32 (cellOf N ps ws xs ts (outputWidth ws) scale p) (rowsOf ws xs) =
-        table-at (gatheredAt N ps ws xs ts (outputWidth ws) scale (zeros (length ps)) (rowsOf ws xs)) (length (zeros (length ps))) p
-        (subst (λ (n : ℕ). p < n) (sym long) inside)
+        table-at _ (length (zeros (length ps))) p (subst (λ (n : ℕ). p < n) (sym long) inside)
         ∙ ap (λ (a : Float). sumFrom a (cellOf N ps ws xs ts (outputWidth ws) scale p) (rowsOf ws xs))
         (table-at (λ (i : ℕ). zero32) (length ps) p inside) in
         subst (λ (g : Float). (g ≡ zero32) ⊎ (g ≡ nan)) (sym cell)
@@ -82,18 +78,18 @@ module _ {N : Net} {ws : List ℕ} {D : Places} {ps qs : List Float} (two : Sibl
 
   -- ---- the step
   pub step-fault-same : stepFault N ps ws xs ts rate ≡ stepFault N qs ws xs ts rate
-  unfolding stepFault
+  unfolding stepFault stepped
   step-fault-same =
-      rw (← passes-same) (past-test (allPass N ps ws xs (rowsOf ws xs)) (λ b moves. b otherwise 20 then moves otherwise 23) refl (λ passed.
+      rw (← passes-same) (past-test (allTo (finiteRow N ps ws xs) (rowsOf ws xs)) (λ b moves. b otherwise 20 then moves otherwise 23) refl (λ passed.
       moves-same (two .differ) (gradientOf N ps ws xs ts) rate rates (gradient-dead passed)
-      ∙ ap (λ (gs : List Float). movesFinite qs gs rate) (gradients-same passed)))
+      ∙ ap (λ (gs : List Float). allFinite (movedOf qs gs rate)) (gradients-same passed)))
 
   -- where it is not refused
   module _ (taken : stepFault N ps ws xs ts rate ≡ 0) where
-    unrefused : (allPass N ps ws xs (rowsOf ws xs) ≡ true) × (movesFinite ps (gradientOf N ps ws xs ts) rate ≡ true)
+    unrefused : (allTo (finiteRow N ps ws xs) (rowsOf ws xs) ≡ true) × (allFinite (stepped N ps ws xs ts rate) ≡ true)
     unfolding stepFault
     unrefused =
-        let both = both-pass (allPass N ps ws xs (rowsOf ws xs) otherwise 20) _ taken in
+        let both = both-pass (allTo (finiteRow N ps ws xs) (rowsOf ws xs) otherwise 20) _ taken in
         (test-passes _ 19 (both .0), test-passes _ 22 (both .1))
 
     second : stepped N qs ws xs ts rate ≡ movedOf qs (gradientOf N ps ws xs ts) rate

@@ -14,7 +14,7 @@ use Rattle.layers.specs.Widths.{inputWidth, outputWidth}
 use Rattle.refusals.specs.Refusals.{_otherwise_, firstTo, doneTo}
 use Rattle.batches.specs.Batch.{batchFault}
 use Rattle.refusals.proofs.Firsts.{both-pass, test-passes, first-before, first-clear}
-use Rattle.passes.specs.Pass.{rowsOf}
+use Rattle.passes.specs.Pass.{rowsOf, from11To18}
 use Rattle.batch_gradients.specs.Calls.{Full}
 use Rattle.training.specs.Train.{rateSound, from11To19, modelAfter, faultAt}
 use Rattle.demands.specs.Silent.{Places, Differ}
@@ -29,11 +29,10 @@ use Rattle.demands.proofs.Steps.{step-fault-same, step-left, step-sibli
 -- ---- 11 to 19 passed: full rows, and a rate above zero
 sound-training : (ws : List ℕ) (ps xs ts : List Float) (rate : Float) → from11To19 ps ws xs ts rate ≡ 0
     → (batchFault (inputWidth ws) (outputWidth ws) xs ts ≡ 0) × (rateSound rate ≡ true)
-unfolding from11To19
+unfolding from11To18 from11To19
 sound-training ws ps xs ts rate e =
-    let after11 = both-pass (allFinite ps otherwise 11) _ e in
-    let both = both-pass (batchFault (inputWidth ws) (outputWidth ws) xs ts) _ (after11 .1) in
-    (both .0, test-passes (rateSound rate) 18 (both .1))
+    let both = both-pass (from11To18 ps ws xs ts) _ e in
+    (both-pass (allFinite ps otherwise 11) _ (both .0) .1, test-passes (rateSound rate) 18 (both .1))
 
 -- ---- a step more
 pub left-none : {per : ℕ} {D : Places} {ps qs : List Float} → Differ per D ps qs → LeftAlike D ps qs ps qs

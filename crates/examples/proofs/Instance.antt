@@ -10,7 +10,7 @@ use lib.Seq.{ext-getD}
 use lib.Ieee.{Float, nan, binary32, fits, ofBits, round, add, sub, mul, div, neg, sum, eq, lt, le, ofInt}
 use Rattle.floats.specs.Binary32.{zero32, minusZero32, one32}
 use Rattle.floats.specs.Sums.{at, tabulate, allTo, allFinite, zeros}
-use Rattle.spline.specs.Spline.{widthOf, knotOf, portionOf, indicatorOf, blendOf, coxOf, outsideOf, valueOf, slopeOf}
+use Rattle.spline.specs.Spline.{widthOf, knotOf, portionOf, indicatorOf, blendOf, coxOf, outsideOf, valueOf, riseOf, slopeOf}
 use Rattle.layers.specs.Net.{netOf}
 use Rattle.passes.specs.Pass.{nodesOf}
 use Rattle.batches.specs.Batch.{rowsIn}
@@ -18,14 +18,14 @@ use Rattle.refusals.specs.declared.Outcome.{Outcome}
 use Rattle.refusals.specs.declared.Outcome.the-variants.{Done}
 use Rattle.refusals.specs.Refusals.{outcomeOf}
 use Rattle.layers.specs.Widths.{widthsTo, paramsTo, parametersIn, nodesIn}
-use Rattle.config.specs.Config.{carriedBy}
+use Rattle.config.specs.Config.{unitGrid, carriedBy}
 use Rattle.admission.specs.Admission.{upTo9InTraining, swept}
 use Rattle.training.specs.Train.{modelAfter}
 use Rattle.demands.specs.Silent.{Differ, RowSilent}
 use Rattle.demands.specs.Readings.{TrainReads}
 use Rattle.demands.specs.Alike.{LeftAlike}
 use Rattle.demands.proofs.Demand.{demand-3}
-use Rattle.examples.specs.Starred.{bits, unitGrid, oneToOne, weighted, fiveZeros, stepRefusal, afterStep}
+use Rattle.examples.specs.Starred.{bits, oneToOne, weighted, stepRefusal, afterStep}
 use Rattle.examples.specs.Instance.{outer, changed, Instance}
 use Rattle.examples.proofs.Starred.{starred}
 
@@ -57,8 +57,8 @@ inner-same a e a′ e′ b c d (suc (suc (suc (suc (suc zero))))) h = refl
 inner-same a e a′ e′ b c d (suc (suc (suc (suc (suc (suc zero)))))) h = absurd (true≢false h)
 inner-same a e a′ e′ b c d (suc (suc (suc (suc (suc (suc (suc p))))))) h = refl
 
-differs : Differ 7 outer (weighted fiveZeros) changed
-unfolding allFinite allTo ofBits fits
+differs : Differ 7 outer (weighted (zeros 5)) changed
+unfolding tabulate allFinite allTo ofBits fits
 differs =
     record {
       size = refl;
@@ -66,12 +66,12 @@ differs =
       within = of-both (λ p. p < 7) (lit< tt) (lit< tt);
       coefficient = of-both (λ p. 2 ≤ p % 7) (lit≤ tt) (lit≤ tt);
       others = inner-same zero32 zero32 (bits 0xc0f0_0000) minusZero32 zero32 zero32 zero32;
-      floats = of-both (λ p. T (fits binary32 (at (weighted fiveZeros) p)) × T (fits binary32 (at changed p))) (tt, tt) (tt, tt);
+      floats = of-both (λ p. T (fits binary32 (at (weighted (zeros 5)) p)) × T (fits binary32 (at changed p))) (tt, tt) (tt, tt);
     }
 
 -- ---- what its one row reads
-row-silent : RowSilent (netOf (unitGrid 2)) oneToOne outer (weighted fiveZeros) (zero32 ∷ [])
-unfolding paramsTo nodesOf valueOf slopeOf coxOf outsideOf blendOf indicatorOf portionOf knotOf widthOf ofBits add sub mul div neg round sum
+row-silent : RowSilent (netOf (unitGrid 2)) oneToOne outer (weighted (zeros 5)) (zero32 ∷ [])
+unfolding paramsTo nodesOf valueOf riseOf slopeOf coxOf outsideOf blendOf indicatorOf portionOf knotOf widthOf ofBits add sub mul div neg round sum
     ofInt eq lt le
 row-silent zero zero zero zero inside ol il kl d reached = (tt, tt)
 row-silent zero zero zero (suc zero) inside ol il kl d reached = absurd (true≢false (sym d))
@@ -83,7 +83,7 @@ row-silent zero zero (suc i) k inside ol il kl d reached = absurd (omega arith)
 row-silent zero (suc o) i k inside ol il kl d reached = absurd (omega arith)
 row-silent (suc l) o i k inside ol il kl d reached = absurd (omega arith)
 
-reads : TrainReads (netOf (unitGrid 2)) oneToOne outer (weighted fiveZeros) (zero32 ∷ []) (one32 ∷ []) (bits 0x3f00_0000) 1
+reads : TrainReads (netOf (unitGrid 2)) oneToOne outer (weighted (zeros 5)) (zero32 ∷ []) (one32 ∷ []) (bits 0x3f00_0000) 1
 unfolding modelAfter rowsIn
 reads zero h clear zero l before = row-silent
 reads zero h clear (suc r) l before = absurd (omega arith)
@@ -96,14 +96,14 @@ checks = upTo9InTraining oneToOne (unitGrid 2) 7 7 4
 abbrev answerOf : List Float → Outcome
 answerOf ms = outcomeOf (stepRefusal ms) (carriedBy checks 7)
 
-alike : (answerOf (weighted fiveZeros) ≡ answerOf changed)
-    × LeftAlike outer (weighted fiveZeros) changed (afterStep (weighted fiveZeros)) (afterStep changed)
+alike : (answerOf (weighted (zeros 5)) ≡ answerOf changed)
+    × LeftAlike outer (weighted (zeros 5)) changed (afterStep (weighted (zeros 5))) (afterStep changed)
 unfolding tabulate paramsTo widthsTo
 alike =
     let cleared = swept checks 7 (zeros 7) in
     let bare = swept checks 4 (zeros 4) in
-    let both = demand-3 oneToOne (unitGrid 2) outer (weighted fiveZeros) changed differs .step (zero32 ∷ []) (one32 ∷ []) (bits 0x3f00_0000)
-    (zeros 7) (zeros 4) (λ sound. reads) (answerOf (weighted fiveZeros)) (answerOf changed) (afterStep (weighted fiveZeros)) cleared bare
+    let both = demand-3 oneToOne (unitGrid 2) outer (weighted (zeros 5)) changed differs .step (zero32 ∷ []) (one32 ∷ []) (bits 0x3f00_0000)
+    (zeros 7) (zeros 4) (λ sound. reads) (answerOf (weighted (zeros 5))) (answerOf changed) (afterStep (weighted (zeros 5))) cleared bare
     (afterStep changed) cleared bare (record { answer = refl; leaves = record { model = refl; gradients = refl; work = refl } })
     (record { answer = refl; leaves = record { model = refl; gradients = refl; work = refl } }) in
     (both .0, both .1)
@@ -126,7 +126,7 @@ left-at p = go (outer p) refl
         ∙ inner-same zero32 zero32 (bits 0xc0f0_0000) minusZero32 (bits 0x3e2a_aaab) (bits 0x3f2a_aaab) (bits 0x3e2a_aaab) p d
 
 pub met : Instance
-unfolding ofBits eq
+unfolding tabulate ofBits eq
 met =
     record {
       apart = refl;

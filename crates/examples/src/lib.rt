@@ -1,1 +1,1 @@
-// Theorems alone: the settled examples that document 01 marks with a star, of the definitions that the contracts cite.
+// Theorems alone: the settled examples marked * (R16.1 to R16.3), of the definitions that the contracts cite.

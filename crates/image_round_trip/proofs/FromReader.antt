@@ -11,11 +11,12 @@ use lib.Ieee.{Float, binary32, toBits}
 use lib.Ieee.Bits.{toBits-ofBits, is-true}
 use lib.Ieee.Scale.{finite}
 use borrow.Author.Tests.{eq-eqb}
-use Rattle.floats.specs.Sums.{finiteAt, allFinite}
+use Rattle.floats.specs.Sums.{allFinite}
 use Rattle.layers.specs.Widths.{parametersIn}
 use Rattle.config.specs.Config.{configFault}
 use Rattle.admission.specs.Admission.{upTo8}
-use Rattle.words.specs.Words.{Bytes, wordAt, floatAt, wordIn, bitsIn, wordsFrom, floatsIn, packedWords, packedFloats}
+use Rattle.words.specs.Words.{Bytes, wordAt, floatAt, wordsFrom, floatsIn, packedWords, packedFloats}
+use Rattle.words.proofs.Packs.{wordIn, bitsIn}
 use Rattle.words.proofs.Patterns.{finite-number}
 use Rattle.words.proofs.Tables.{all-at, words-length, word-at, floats-length, float-at}
 use Rattle.words.proofs.Places.{word-small, packed-again}
@@ -57,7 +58,7 @@ module _ (bs : List ℕ) (b : Bytes bs) (a : PastEleven bs (trailerIn bs)) where
       (packed-again bs 0 n (bitsIn (floatsIn bs n)) b (omega arith)
       (λ i h. let same = float-at bs n i h in
       let f : finite (floatAt bs (i * 4)) ≡ true =
-      ap finite (sym same) ∙ all-at (finiteAt (floatsIn bs n)) n i (rw (floats-length bs n) at (a .sound)) h in
+      ap finite (sym same) ∙ all-at _ n i (rw (floats-length bs n) at (a .sound)) h in
       let z : 0 + i * 4 ≡ i * 4 = omega arith in
       ap (toBits binary32) same ∙ bits-back bs (i * 4) b (omega arith) f ∙ ap (wordAt bs) (sym z)))
 

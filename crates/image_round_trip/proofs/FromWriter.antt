@@ -18,14 +18,15 @@ use Rattle.layers.specs.Widths.{widthAt}
 use Rattle.config.specs.Config.{configFault}
 use Rattle.admission.specs.Admission.{upTo8}
 use Rattle.admission.proofs.Passed.{Past8, past8}
-use Rattle.words.specs.Words.{wordAt, wordIn, bitsIn, wordsFrom, floatsIn, packedWords, packedFloats}
-use Rattle.words.proofs.Packs.{packed-words-length, packed-floats-length}
+use Rattle.words.specs.Words.{wordAt, wordsFrom, floatsIn, packedWords, packedFloats}
+use Rattle.words.proofs.Packs.{wordIn, bitsIn, packed-words-length, packed-floats-length}
 use Rattle.words.proofs.Places.{skip, packed-at}
 use Rattle.image_layout.specs.declared.Trailer.{Trailer}
 use Rattle.image_layout.specs.Trailer.{widthsDistance, imageLength, trailerAt, trailerWords}
 use Rattle.image_layout.proofs.Lengths.{trailer-length}
 use Rattle.image_reading.specs.declared.Described.the-variants.{Sound}
-use Rattle.image_reading.specs.Image.{trailerIn, widthsIn, totalIn, descriptionBy, descriptionIn, describeOf}
+use Rattle.image_reading.specs.Image.{trailerIn, widthsIn, totalIn, descriptionIn, describeOf}
+use Rattle.image_reading.specs.Stages.{descriptionBy}
 use Rattle.image_reading.specs.Image.{widthsOf, parametersOf}
 use Rattle.image_reading.proofs.Passed.{PastEleven, sound-all}
 use Rattle.image_writing.specs.Writing.{imageOf, writeFault}

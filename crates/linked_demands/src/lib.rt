@@ -1,0 +1,1 @@
+// Theorems alone: demand 3 and the start of `dot`, of the C functions.

@@ -14,12 +14,16 @@ use Rattle.layers.specs.Widths.{inputWidth}
 use Rattle.batches.specs.Batch.{rowAt}
 use Rattle.gradients.specs.Steps.{plusAt, plusOf}
 use Rattle.row_gradients.specs.Backward.{rowGradient}
-use Rattle.batch_gradients.specs.Accumulate.{cellOf, gatheredAt, gathered}
+use Rattle.batch_gradients.specs.Accumulate.{cellOf, gathered}
 
 module _ (N : Net) (ps : List Float) (ws : List ℕ) (xs ts : List Float) (v : ℕ) (scale : Float) (gs : List Float) where
   pub gathered-none : gs ≡ gathered N ps ws xs ts v scale gs 0
   unfolding gathered sumFrom
   gathered-none = sym (tab-self gs nan)
+
+  -- cell p with the first n rows added
+  abbrev cellAfter : ℕ → ℕ → Float
+  cellAfter n p = sumFrom (at gs p) (cellOf N ps ws xs ts v scale p) n
 
   -- what row r adds
   abbrev rowAdds : ℕ → List Float
@@ -29,8 +33,8 @@ module _ (N : Net) (ps : List Float) (ws : List ℕ) (xs ts : List Float) (v : �
       → length (rowAdds r) ≡ length gs → e′ ≡ plusOf e (rowAdds r) → e′ ≡ gathered N ps ws xs ts v scale gs (r + 1)
   unfolding gathered plusOf sumFrom
   gathered-more r e e′ p l q =
-      let f = gatheredAt N ps ws xs ts v scale gs r in
-      let f′ = gatheredAt N ps ws xs ts v scale gs (r + 1) in
+      let f = cellAfter r in
+      let f′ = cellAfter (r + 1) in
       let long : length e ≡ length gs = ap length p ∙ tab-length f (length gs) in
       let there : (k : ℕ) → k < length gs → at (tabulate f (length gs)) k ≡ f k =
       λ k h. ap (λ (z : List Float). at z k) (sym (append-nil (tabulate f (length gs))))

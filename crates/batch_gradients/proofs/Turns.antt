@@ -15,13 +15,13 @@ use Rattle.layers.specs.Widths.{widthAt, inputWidth, outputWidth}
 use Rattle.layer_cursor.specs.Cursor.{Walkable}
 use Rattle.batches.specs.Batch.{rowsIn, rowAt}
 use Rattle.batches.proofs.Rows.{row-begins}
-use Rattle.passes.specs.Pass.{rowsOf}
+use Rattle.passes.specs.Pass.{rowsOf, finiteRow}
 use Rattle.fast_gradients.specs.Adding.{Clean}
 use Rattle.row_gradients.specs.Calls.{twoN, WorkFits, NodesFilled, RowAdded}
 use Rattle.row_gradients.proofs.Spans.{refit}
 use Rattle.row_gradients.proofs.Values.{further}
 use Rattle.row_gradients.proofs.Rows.{row-length, row-clean}
-use Rattle.batch_gradients.specs.Accumulate.{passes, allPass, gathered}
+use Rattle.batch_gradients.specs.Accumulate.{gathered}
 use Rattle.batch_gradients.specs.Calls.{Full, FullRows, RowsTested, Accumulated}
 use Rattle.batch_gradients.proofs.Gathered.{gathered-none, gathered-more}
 
@@ -46,7 +46,7 @@ same-row e f y = rw (← e, ← f) y
 pub record Tested (N : Net) (ps : List Float) (ws : List ℕ) (xs W₀ : List Float) (r : ℕ) (W : List Float) : Type 0 where
   pub size : length W ≡ length W₀
   pub rest : drop (twoN ws) W ≡ drop (twoN ws) W₀
-  pub passed : allTo (passes N ps ws xs) r ≡ true
+  pub passed : allTo (finiteRow N ps ws xs) r ≡ true
 
 module _ {N : Net} {ps : List Float} {ws : List ℕ} {xs W₀ : List Float} where
   pub none-tested : Tested N ps ws xs W₀ 0 W₀
@@ -54,7 +54,7 @@ module _ {N : Net} {ps : List Float} {ws : List ℕ} {xs W₀ : List Float} wher
 
   -- one row more, which answers b
   module _ {r : ℕ} {W W′ : List Float} {b : Bool} (t : Tested N ps ws xs W₀ r W) (size : length W′ ≡ length W)
-      (rest : drop (twoN ws) W′ ≡ drop (twoN ws) W) (answer : b ≡ passes N ps ws xs r) where
+      (rest : drop (twoN ws) W′ ≡ drop (twoN ws) W) (answer : b ≡ finiteRow N ps ws xs r) where
     pub one-tested : b ≡ true → Tested N ps ws xs W₀ (r + 1) W′
     one-tested e = record {
       size = size ∙ t .size;
@@ -63,7 +63,6 @@ module _ {N : Net} {ps : List Float} {ws : List ℕ} {xs W₀ : List Float} wher
     }
 
     pub refused : r < rowsOf ws xs → b ≡ false → RowsTested N ps ws xs W₀ W′ false
-    unfolding allPass
     refused h e = record {
       passed = sym (all-stop _ r (rowsOf ws xs) h (sym answer ∙ e));
       rest = rest ∙ t .rest;
@@ -71,7 +70,6 @@ module _ {N : Net} {ps : List Float} {ws : List ℕ} {xs W₀ : List Float} wher
 
   pub all-tested : {r : ℕ} {W : List Float} → r ≡ rowsOf ws xs → Tested N ps ws xs W₀ r W
       → RowsTested N ps ws xs W₀ W true
-  unfolding allPass
   all-tested e t = record { passed = sym (t .passed) ∙ ap (allTo _) e; rest = t .rest }
 
 -- ---- and all of them are added to gs₀

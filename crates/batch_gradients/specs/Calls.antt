@@ -5,12 +5,13 @@ use mathlib.Core.Bool.{Bool, true}
 use mathlib.Core.List.{List}
 use lib.ListN.{length, drop}
 use lib.Ieee.{Float}
+use Rattle.floats.specs.Sums.{allTo}
 use Rattle.layers.specs.Net.{Net}
 use Rattle.layers.specs.Widths.{inputWidth, outputWidth}
 use Rattle.batches.specs.Batch.{rowsIn, rowAt}
-use Rattle.passes.specs.Pass.{rowsOf}
+use Rattle.passes.specs.Pass.{rowsOf, finiteRow}
 use Rattle.row_gradients.specs.Calls.{twoN}
-use Rattle.batch_gradients.specs.Accumulate.{allPass, gathered}
+use Rattle.batch_gradients.specs.Accumulate.{gathered}
 
 -- each of n rows is as wide as it must be
 abbrev pub Full : ℕ → List Float → ℕ → Type 0
@@ -24,12 +25,12 @@ pub record FullRows (ws : List ℕ) (xs ts : List Float) : Type 0 where
 
 -- whether every row passes 20, and the work past 2N as it was
 pub record RowsTested (N : Net) (ps : List Float) (ws : List ℕ) (xs W W′ : List Float) (r : Bool) : Type 0 where
-  pub passed : r ≡ allPass N ps ws xs (rowsOf ws xs)
+  pub passed : r ≡ allTo (finiteRow N ps ws xs) (rowsOf ws xs)
   pub rest : drop (twoN ws) W′ ≡ drop (twoN ws) W
 
 -- whether every row passes 20, then the gradients with all rows added, and the work past 2N as it was
 pub record Accumulated (N : Net) (ps : List Float) (ws : List ℕ) (xs ts : List Float) (scale : Float)
     (gs W gs′ W′ : List Float) (r : Bool) : Type 0 where
-  pub passed : r ≡ allPass N ps ws xs (rowsOf ws xs)
+  pub passed : r ≡ allTo (finiteRow N ps ws xs) (rowsOf ws xs)
   pub gradients : r ≡ true → gs′ ≡ gathered N ps ws xs ts (outputWidth ws) scale gs (rowsOf ws xs)
   pub rest : drop (twoN ws) W′ ≡ drop (twoN ws) W

@@ -1,6 +1,6 @@
--- "Each public call's statement determines its answer and the final contents of all memory lent to it .. that any two
--- outcomes allowed by it coincide is itself shown" (document 01): the number, and each parameter in order. Where nothing
--- is lent to be written, `refl`; else both outcomes have equations with the same right side, which `cc` joins.
+-- Each call's statement determines its answer and the final contents of all memory lent to it (R3.6): any two outcomes
+-- that it allows coincide, in the number and in each parameter in order. Where nothing is lent to be written, `refl`;
+-- else both outcomes have equations with the same right side, which `cc` joins.
 use mathlib.Core.Path.{_≡_, refl, sym, ap, _∙_}
 use Rattle.floats.proofs.Determined.{Determined}
 use Rattle.estimator.specs.Linkage.{descriptionOr}

@@ -1,5 +1,5 @@
 // Public crate: the C linkage, and nothing else. A slice is a pointer and a length in elements; an answer goes out as
-// document 01's number, and what it carries in a lent number.
+// its number of refusal, 0 for none (R3.1, R14.2), and what that carries in a lent number.
 ghost use mathlib.Core.Path.{_≡_};
 ghost use Rattle.layers.specs.Net.{netOf};
 ghost use Rattle.config.specs.Config.{checkOf, checkedRefusal};

@@ -13,7 +13,7 @@ use Rattle.floats.proofs.Loops.{tab-none, tab-more, tab-ext}
 use Rattle.generator.specs.declared.SplitMix64.{SplitMix64}
 use Rattle.generator.specs.declared.Uniform.{Uniform}
 use Rattle.generator.specs.Generator.{uniformOf}
-use Rattle.first_parameters.specs.Initial.{advancedBy, drawAt, hundredth32, coefficientAt, edgeInitial}
+use Rattle.first_parameters.specs.Initial.{advancedBy, drawAt, hundredth32, edgeInitial}
 use Rattle.first_parameters.specs.Filled.{Filled}
 use Rattle.first_parameters.proofs.Draws.{advanced-none, advanced-more, drawn, advanced-on, draw-after}
 
@@ -62,7 +62,7 @@ edge-filled g k root G r u d e h q p w =
     let after : u .next ≡ advancedBy 1 G = advanced-more 0 G G u (advanced-none G) p in
     let a = u .value ⊘ root in
     let base : a ≡ drawAt G 0 ⊘ root = ap (λ (x : Float). x ⊘ root) (drawn 0 G G u (advanced-none G) p) in
-    let coefficients : tabulate (coefficientFrom (u .next)) k ≡ tabulate (coefficientAt G) (g + 3) =
+    let coefficients : tabulate (coefficientFrom (u .next)) k ≡ drop 2 (edgeInitial g root G) =
     ap (tabulate (coefficientFrom (u .next))) q
     ∙ tab-ext _ _ (g + 3) (λ j l. ap (λ (x : Float). hundredth32 ⊗ x) (draw-after j G (u .next) after)) in
     let size : 2 + k ≡ g + 5 = omega arith in

@@ -17,7 +17,7 @@ use Rattle.generator.specs.Generator.{seededOf}
 use Rattle.generator.specs.Root.{rootOf}
 use Rattle.layers.specs.Widths.{widthAt, layerSize, paramsTo}
 use Rattle.layers.proofs.Widths.{params-none, params-more}
-use Rattle.first_parameters.specs.Initial.{advancedBy, coefficientAt, edgeInitial, edgeAt, layerInitial, edgesTo, modelInitial}
+use Rattle.first_parameters.specs.Initial.{advancedBy, edgeInitial, layerInitial, edgesTo, modelInitial}
 use Rattle.first_parameters.specs.Filled.{Filled}
 use Rattle.first_parameters.proofs.Draws.{advanced-none, advanced-on}
 
@@ -77,7 +77,7 @@ module _ (P : Plan) (ok : Sound P) (G : SplitMix64) (d : List Float) where
 -- ---- a layer's edges
 edge-length : (g : ℕ) (root : Float) (G : SplitMix64) → length (edgeInitial g root G) ≡ g + 5
 unfolding edgeInitial
-edge-length g root G = let l = tab-length (coefficientAt G) (g + 3) in omega (arith, l)
+edge-length g root G = simp tab-length (omega arith)
 
 abbrev pub edgePlan : ℕ → Float → Plan
 edgePlan g root = record {
@@ -119,7 +119,7 @@ layer-length : (g w n : ℕ) (G : SplitMix64) → length (layerInitial g w n G) 
 unfolding layerInitial
 layer-length g w n G =
     let root = rootOf w in
-    flat-length (edgeAt g root G) (g + 5) (λ e. edge-length g root (advancedBy (e * (g + 4)) G)) (n * w) ∙ mul-assoc n w (g + 5)
+    flat-length _ (g + 5) (λ e. edge-length g root (advancedBy (e * (g + 4)) G)) (n * w) ∙ mul-assoc n w (g + 5)
 
 abbrev pub layerPlan : ℕ → List ℕ → Plan
 layerPlan g ws = record {

@@ -180,7 +180,7 @@ module _ (n s : ℕ) (N : 1 ≤ n) (S : s < 2 ^ 32) (from : s * s ≤ n * 2 ^ 48
         ⊎-elim (λ (x : (c : ℕ) × (b ≡ c * 2 ^ 126)). subst (Nearer n a) (sym (x .1)) (nearer-whole (x .0) (subst Held (x .1) h)))
         (λ (x : (0 < 126) × (b < 2 ^ 149)). nearer-small b (x .1)) (stepped-of binary32 126 (h .float) b (h .holds) (h .value))
 
--- ---- "Root, whole n from 1 to 41,666: the f32 nearest the exact root; no midpoint is ever met"
+-- ---- R11.3: the root of a whole n from 1 to 41,666 is the f32 nearest to the exact root; no midpoint is met
 pub root-nearest : (n : ℕ) → 1 ≤ n → n ≤ 41666 → NearestRoot n (rootOf n)
 root-nearest n h k =
     let l : n * 2 ^ 48 < 2 ^ 64 = omega arith in

@@ -11,7 +11,7 @@ pub root-within : (n : ℕ) → 1 ≤ n → n ≤ 41666 → rootOf n ≡ round b
 unfolding rootOf
 root-within n h k = rw (le-leb 1 n h, le-leb n 41666 k)
 
--- "Any other n gives +0.0"
+-- R11.3: any other n gives +0.0
 pub root-elsewhere : (n : ℕ) → ¬ ((1 ≤ n) × (n ≤ 41666)) → rootOf n ≡ ofBits binary32 0
 unfolding rootOf
 root-elsewhere n h = go (leb 1 n) (leb n 41666) (leb→le 1 n) (leb→le n 41666)

@@ -1,10 +1,11 @@
--- "8,388,609 / 8,388,608 zero bytes: 24 / 25 carrying 0": images that a program's stack does not hold, so that no
--- stored case gives them. Their answers by the definition that `describe` meets. Definitions only.
+-- R16.5: 8,388,609 zero bytes are 24, 8,388,608 are 25 carrying 0: images that a program's stack does not hold, so that
+-- no stored case gives them. Their answers by the definition that `describe` meets. Definitions only.
 use Prim.Native.Nat.{ℕ, _<_}
 use mathlib.Core.Path.{_≡_}
 use mathlib.Core.List.{List}
 use lib.ListN.{length, getD}
-use Rattle.image_reading.specs.Image.{refusedBy, describeOf}
+use Rattle.image_reading.specs.Image.{describeOf}
+use Rattle.image_reading.specs.Stages.{refusedBy}
 
 -- every byte is zero; beyond a list's end `getD` is zero by itself
 abbrev pub Zeros : List ℕ → Type 0

@@ -1,5 +1,4 @@
--- The trailer of version 1: "a trailer of eight words that points back: distance from the end to the first parameter,
--- distance to the first width, K, g, lo bits, hi bits, degree, version" (document 01, "Model image"). Definitions only.
+-- R13.2: the trailer of version 1, the last eight words of an image. Definitions only.
 use Prim.Native.Nat.{ℕ, _+_, _*_}
 use mathlib.Core.List.{List, [], _∷_}
 use lib.Ieee.{binary32, toBits}
@@ -7,7 +6,7 @@ use Rattle.spline.specs.declared.Grid.{Grid}
 use Rattle.words.specs.Words.{wordAt, floatAt}
 use Rattle.image_layout.specs.declared.Trailer.{Trailer}
 
--- "The image must be 32 + 4K + 4P long": the trailer alone, the widths and it, and all
+-- R13.2: lengths in bytes: of the trailer alone, of the widths and it, and of all, 32 + 4K + 4P
 abbrev pub trailerLength : ℕ
 trailerLength = 32
 
@@ -17,7 +16,7 @@ widthsDistance count = trailerLength + 4 * count
 abbrev pub imageLength : ℕ → ℕ → ℕ
 imageLength count parameters = widthsDistance count + 4 * parameters
 
--- the trailer that begins at a place, as it is read
+-- R13.2, R13.3: the trailer that begins at a place, as it is read
 unfoldable pub trailerAt : List ℕ → ℕ → Trailer
 trailerAt bs at = record {
   parameters = wordAt bs at;
@@ -28,7 +27,7 @@ trailerAt bs at = record {
   version = wordAt bs (at + 28);
 }
 
--- the words of the trailer of K widths, P parameters and a grid, as they are written
+-- R13.2: the words of the trailer of K widths, P parameters and a grid, as they are written
 unfoldable pub trailerWords : ℕ → ℕ → Grid → List ℕ
 trailerWords count parameters g =
     imageLength count parameters ∷ widthsDistance count ∷ count ∷ g .intervals ∷ toBits binary32 (g .lo)

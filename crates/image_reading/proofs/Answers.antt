@@ -8,7 +8,8 @@ use Rattle.refusals.specs.declared.Outcome.the-variants.{Refused as Undone}
 use Rattle.refusals.specs.Refusals.{_then_, outcomeOf}
 use Rattle.image_reading.specs.declared.Description.{Description}
 use Rattle.image_reading.specs.declared.Described.the-variants.{Sound, Refused}
-use Rattle.image_reading.specs.Image.{descriptionIn, carriedIn, refusedBy, answerTo}
+use Rattle.image_reading.specs.Image.{descriptionIn, carriedIn}
+use Rattle.image_reading.specs.Stages.{refusedBy, answerTo}
 
 -- ---- for callers that match on an answer to checks that came to n
 pub record SoundAnswer (n : ℕ) (bs : List ℕ) (d : Description) : Type 0 where

@@ -5,7 +5,8 @@ use mathlib.Core.List.{List}
 use lib.ListN.{length}
 use borrow.Author.Tests.{le-leb, lt-leb}
 use Rattle.image_layout.specs.Trailer.{trailerLength}
-use Rattle.image_reading.specs.Image.{upToWidths, upToLength, refusedBy, surveyOf}
+use Rattle.image_reading.specs.Image.{upToWidths, upToLength}
+use Rattle.image_reading.specs.Stages.{refusedBy, surveyOf}
 
 module _ (bs : List ℕ) where
   pub too-long : 8388608 < length bs → refusedBy 24 0 ≡ surveyOf bs

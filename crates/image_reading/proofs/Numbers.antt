@@ -2,7 +2,7 @@
 use Prim.Native.Nat.{ℕ, _+_, _-_, _≤_}
 use native.Mathlib.Omega.{arith}
 use mathlib.Core.Path.{_≡_}
-use mathlib.Core.Bool.{Bool, true, false, _&&_}
+use mathlib.Core.Bool.{Bool, true, false}
 use mathlib.Core.List.{List}
 use lib.Dec.{leb, ltb, eqb}
 use lib.ListN.{length}
@@ -10,8 +10,7 @@ use Rattle.refusals.specs.Refusals.{_otherwise_, _then_, firstTo}
 use Rattle.refusals.proofs.Firsts.{test-at-most, then-at-most, first-at-most}
 use Rattle.spline.specs.declared.Grid.{Grid}
 use Rattle.layers.specs.Widths.{layerSize, paramsTo, parametersIn}
-use Rattle.config.specs.Config.{shapeSound, productsFit, intervalsSound, movesMinusOne, sizeFault, endsSound}
-use Rattle.config.specs.Config.{stepsSound, configFault}
+use Rattle.config.specs.Config.{shapeSound, productsFit, intervalsSound, domainSound, unitGrid, sizeFault, configFault}
 use Rattle.image_layout.specs.declared.Trailer.{Trailer}
 use Rattle.image_layout.specs.Trailer.{widthsDistance}
 use Rattle.image_reading.specs.Image.{trailerFault}
@@ -38,9 +37,9 @@ config-to-7 ws g =
     one (shapeSound ws) 1 _ (omega arith)
     (one (productsFit ws) 2 _ (omega arith)
     (one (intervalsSound (g .intervals)) 3 _ (omega arith)
-    (one (movesMinusOne (g .intervals)) 4 _ (omega arith)
+    (one (domainSound (unitGrid (g .intervals))) 4 _ (omega arith)
     (then-at-most 7 (firstTo (sizeFault per ws) (length ws - 1)) _ sizes
-    (one (leb (parametersIn per ws) 250000) 7 _ (omega arith) (last (endsSound g && stepsSound g) 4 (omega arith)))))))
+    (one (leb (parametersIn per ws) 250000) 7 _ (omega arith) (last (domainSound g) 4 (omega arith)))))))
   where
     last : (b : Bool) (n : ℕ) → n ≤ 7 → (b otherwise n) ≤ 7
     last b n h = test-at-most 7 b n h

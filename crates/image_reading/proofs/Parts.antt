@@ -13,7 +13,8 @@ use Rattle.words.specs.Words.{floatsIn}
 use Rattle.image_layout.specs.Trailer.{imageLength}
 use Rattle.image_reading.specs.declared.Description.{Description}
 use Rattle.image_reading.specs.declared.Described.the-variants.{Sound, Refused}
-use Rattle.image_reading.specs.Image.{trailerIn, upToLength, describeFault, descriptionIn, refusedBy, surveyOf}
+use Rattle.image_reading.specs.Image.{trailerIn, upToLength, describeFault, descriptionIn}
+use Rattle.image_reading.specs.Stages.{refusedBy, surveyOf}
 use Rattle.image_reading.specs.Image.{describeOf, ImageRead}
 use Rattle.image_reading.proofs.Answers.{SoundAnswer, sound-answer, RefusedAnswer, refused-answer, stays-refused}
 use Rattle.image_reading.proofs.Passed.{PastLength, past-length, size, past-eleven}

@@ -23,8 +23,8 @@ use Rattle.image_reading.specs.declared.Description.{Description}
 use Rattle.image_reading.specs.declared.Described.{Described}
 use Rattle.image_reading.specs.declared.Described.the-variants.{Refused}
 use Rattle.image_reading.specs.Image.{trailerIn, widthsIn, totalIn, trailerFault, upToWidths, lengthFault}
-use Rattle.image_reading.specs.Image.{upToLength, descriptionBy, descriptionIn, carriedIn, refusedBy, describedOf}
-use Rattle.image_reading.specs.Image.{surveyOf}
+use Rattle.image_reading.specs.Image.{upToLength, descriptionIn, carriedIn, describedOf}
+use Rattle.image_reading.specs.Stages.{refusedBy, descriptionBy, surveyOf}
 use Rattle.image_reading.proofs.Answers.{refuses}
 use Rattle.image_reading.proofs.Numbers.{trailer-not-7, config-to-7}
 use Rattle.image_reading.proofs.Passed.{PastWidths, past-trailer}

@@ -1,12 +1,12 @@
 // Public crate: what a model image of version 1 describes, and its parameter bytes. Each call takes all bytes and
-// answers, or refuses by document 01's number; one statement says the answer and the final contents of what was lent.
+// answers, or refuses by number (R3.1); one statement says the answer and the final contents of what was lent.
 ghost use mathlib.Core.Path.{_≡_};
 ghost use Prim.Native.Nat.{_+_, _*_, _^_, _≤_, _<_};
 ghost use lib.ListN.{length};
 ghost use Rattle.config.specs.Config.{checkOf};
 ghost use Rattle.words.specs.Words.{wordsFrom};
-ghost use Rattle.image_reading.specs.Image.{trailerFault, lengthFault, descriptionBy, refusedBy, describedOf};
-ghost use Rattle.image_reading.specs.Image.{surveyOf, describeOf, ImageRead};
+ghost use Rattle.image_reading.specs.Image.{trailerFault, lengthFault, describedOf, describeOf, ImageRead};
+ghost use Rattle.image_reading.specs.Stages.{refusedBy, descriptionBy, surveyOf};
 use config::Checked;
 use config::Shape;
 use image_layout::Trailer;

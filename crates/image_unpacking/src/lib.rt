@@ -1,5 +1,5 @@
 // Public crate: from a model image of version 1 to the widths and the model that the other calls take. The call takes
-// all arguments and answers, or refuses by document 01's number; one statement says the answer and what both slices
+// all arguments and answers, or refuses by number (R3.1); one statement says the answer and what both slices
 // hold.
 ghost use Rattle.image_unpacking.specs.Unpacking.{Unpacked};
 use image_reading::Described;

@@ -1,5 +1,5 @@
 // Public crate: the model image of version 1, written from a configuration and a model. The call takes all arguments
-// and answers, or refuses by document 01's number; one statement says the answer and the bytes that it leaves.
+// and answers, or refuses by number (R3.1); one statement says the answer and the bytes that it leaves.
 ghost use mathlib.Core.Path.{_≡_};
 ghost use Rattle.image_writing.specs.Writing.{imageOf, ImageWritten};
 ghost use Rattle.image_writing.specs.Steps.{refusedBy, Writable};

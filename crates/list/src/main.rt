@@ -1,4 +1,4 @@
-// Program: document 01's listing of the image on standard input. Its `stdin` and `stdout` are that document's example.
+// Program: the listing of the image on standard input (R15.1). Its `stdin` and `stdout` are the example of R16.4.
 use libc::STDIN_FILENO;
 use libc::STDOUT_FILENO;
 

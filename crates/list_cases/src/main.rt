@@ -1,11 +1,11 @@
-// Program: listings of images that differ from document 01's example in their length or in a few bytes. Its file
-// `stdout` holds what document 01 asks for each.
+// Program: listings of images that differ from the example of R16.4 in their length or in a few bytes. Its file
+// `stdout` holds what R15.2 and R15.4 ask for each.
 ghost use mathlib.Core.Path.{_≡_};
 ghost use Prim.Native.Nat.{_≤_, _<_};
 ghost use lib.ListN.{length};
 use libc::STDOUT_FILENO;
 
-// Document 01's example: shape [1, 1], g 2, domain [-1, 1], all parameters 0.0 but spline weight 1.0.
+// The example of R16.4: shape [1, 1], g 2, domain [-1, 1], all parameters 0.0 but spline weight 1.0.
 const EXAMPLE: [u32; 17] = [
     0,
     0x3f80_0000,

@@ -16,7 +16,8 @@ use Rattle.image_reading.specs.declared.Described.the-variants.{Sound, Refused}
 use Rattle.image_reading.specs.Image.{trailerIn, widthsIn, totalIn, describeFault, descriptionIn, describeOf, widthsOf}
 use Rattle.image_reading.proofs.Passed.{PastLength, size, past-eleven}
 use Rattle.image_reading.proofs.Parts.{described, undescribed, described-room}
-use Rattle.listing.specs.Listing.{soundText, refusedLine, describedText, listFault, listingOf}
+use Rattle.text.specs.Text.{labelledLine}
+use Rattle.listing.specs.Listing.{refusedLabel, soundText, describedText, listFault, listingOf}
 use Rattle.listing.specs.Steps.{Listable}
 
 -- ---- an accepted image
@@ -54,12 +55,12 @@ module _ (bs : List ℕ) (d : Description) (e : describeOf bs ≡ Sound d) where
   enough n l k = omega (arith, described-room bs d e .whole)
 
 -- ---- the listing
-refused-text : (n : ℕ) (bs : List ℕ) → (n ≡ 0 → ⊥) → refusedLine n ≡ describedText n bs
+refused-text : (n : ℕ) (bs : List ℕ) → (n ≡ 0 → ⊥) → labelledLine refusedLabel n ≡ describedText n bs
 refused-text zero bs some = absurd (some refl)
 refused-text (suc n) bs some = refl
 
 module _ (bs : List ℕ) where
-  pub list-long : 65536 < length bs → refusedLine 24 ≡ listingOf bs
+  pub list-long : 65536 < length bs → labelledLine refusedLabel 24 ≡ listingOf bs
   unfolding listingOf listFault
   list-long l = rw (lt-leb (length bs) 65536 l)
 
@@ -68,7 +69,7 @@ module _ (bs : List ℕ) where
   described-alone l = rw (le-leb (length bs) 65536 l)
 
   pub list-refused : (r : Refusal) → length bs ≤ 65536 → describeOf bs ≡ Refused r
-      → refusedLine (r .number) ≡ listingOf bs
+      → labelledLine refusedLabel (r .number) ≡ listingOf bs
   unfolding listingOf
   list-refused r l e =
       let a = undescribed bs r e in

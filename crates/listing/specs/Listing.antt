@@ -1,5 +1,4 @@
--- The listing of an image (document 01, "Listing program"): "Grid line: g, lo and hi bits. Layer line: number from 0,
--- in, out, parameters. Total: P. A refusal prints only `refused N`". Definitions only.
+-- R15.1 to R15.4: the listing of an image. Definitions only.
 use Prim.Native.Nat.{ℕ, zero, suc, _+_, _-_}
 use mathlib.Core.List.{List, [], _∷_, _++_}
 use lib.Dec.{leb}
@@ -13,7 +12,7 @@ use Rattle.image_reading.specs.declared.Description.{Description}
 use Rattle.image_reading.specs.Image.{describeFault, descriptionIn, widthsOf}
 use Rattle.text.specs.Text.{numberText, patternText, labelledLine}
 
--- "grid ", "layer ", "total ", "refused "
+-- R15.2, R15.4: "grid ", "layer ", "total ", "refused "
 unfoldable pub gridLabel : List ℕ
 gridLabel = 103 ∷ 114 ∷ 105 ∷ 100 ∷ 32 ∷ []
 
@@ -26,7 +25,7 @@ totalLabel = 116 ∷ 111 ∷ 116 ∷ 97 ∷ 108 ∷ 32 ∷ []
 unfoldable pub refusedLabel : List ℕ
 refusedLabel = 114 ∷ 101 ∷ 102 ∷ 117 ∷ 115 ∷ 101 ∷ 100 ∷ 32 ∷ []
 
--- ---- the lines
+-- ---- R15.2: the lines
 unfoldable pub gridLine : Grid → List ℕ
 gridLine g =
     gridLabel ++ (numberText (g .intervals) 32
@@ -39,25 +38,19 @@ layerText l inputs outputs parameters =
 abbrev pub layerLine : ℕ → List ℕ → ℕ → List ℕ
 layerLine per ws l = layerText l (widthAt ws l) (widthAt ws (l + 1)) (layerSize per ws l)
 
-unfoldable pub totalLine : ℕ → List ℕ
-totalLine p = labelledLine totalLabel p
-
-unfoldable pub refusedLine : ℕ → List ℕ
-refusedLine n = labelledLine refusedLabel n
-
--- ---- the whole
+-- ---- R15.2: the whole
 unfoldable pub layersText : List ℕ → Description → List ℕ
 layersText bs d = flatTo (layerLine (d .grid .intervals + 5) (widthsOf bs d)) (d .widths - 1)
 
 unfoldable pub soundText : List ℕ → Description → List ℕ
-soundText bs d = gridLine (d .grid) ++ (layersText bs d ++ totalLine (d .parameters))
+soundText bs d = gridLine (d .grid) ++ (layersText bs d ++ labelledLine totalLabel (d .parameters))
 
--- of an image whose checks come to n
+-- R15.2, R15.4: of an image whose checks come to n
 abbrev pub describedText : ℕ → List ℕ → List ℕ
 describedText zero bs = soundText bs (descriptionIn bs)
-describedText (suc n) bs = refusedLine (suc n)
+describedText (suc n) bs = labelledLine refusedLabel (suc n)
 
--- "Reads an image from standard input (over 65,536 bytes it prints refusal 24)"
+-- R15.1: more than 65,536 bytes give 24; else the reader's checks are made
 unfoldable pub listFault : List ℕ → ℕ
 listFault bs = leb (length bs) 65536 otherwise 24 then describeFault bs
 

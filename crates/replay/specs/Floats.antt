@@ -8,6 +8,6 @@ use lib.Ieee.{Float, nan, binary32, ofBits, toBits}
 unfoldable pub floatOf : ℕ → Float
 floatOf bits = cond (ltb bits (2 ^ 32)) (ofBits binary32 bits) nan
 
--- x is written as this pattern, a NaN as 7FC00000 ("bits 7FC00000 for NaN", document 01, E)
+-- R7.1: x is written as this pattern, a NaN as 7FC00000
 unfoldable pub sameBits : Float → ℕ → Bool
 sameBits x bits = eqb bits (toBits binary32 x)

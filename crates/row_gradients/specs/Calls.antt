@@ -14,7 +14,7 @@ use Rattle.passes.specs.Pass.{nodesOf, nodesFinite}
 use Rattle.gradients.specs.Steps.{plusOf}
 use Rattle.row_gradients.specs.Backward.{rowGradient}
 
--- "Training needs P + 2N, N the sum of widths": the P are the lent gradients, the 2N the work
+-- R2.7: training needs P numbers, the lent gradients, and 2N, the work
 abbrev pub twoN : List ℕ → ℕ
 twoN ws = 2 * nodesIn ws
 

@@ -1,5 +1,4 @@
--- Which parameters a layer touches, in the flat order: what the visit map is made of (document 01, "Visit map").
--- Definitions only.
+-- R12.2, R12.3: which parameters a layer touches, in the flat order: what the visit map is made of. Definitions only.
 use Prim.Native.Nat.{ℕ}
 use mathlib.Core.Bool.{Bool, true}
 use mathlib.Core.List.{List, _∷_}
@@ -9,24 +8,21 @@ use Rattle.floats.specs.Binary32.{zero32}
 use Rattle.floats.specs.Sums.{tabulate, flatTo, at}
 use Rattle.layers.specs.Basis.{Basis}
 
--- "its basis value is not zero", by the comparison of f32: -0.0 is zero, an infinity and a NaN are not
+-- R12.3: basis value k is not zero, by the comparison of f32: -0.0 is zero, an infinity and a NaN are not (R1.5)
 unfoldable pub touches : Basis → ℕ → Float → Bool
 touches B k x = ne (B .value k x) zero32
 
--- an edge that reads x: both weights, then the coefficients
+-- R12.2, R12.3: an edge that reads x: both weights, then the coefficients
 unfoldable pub edgeTouched : Basis → Float → List Bool
 edgeTouched B x = true ∷ true ∷ tabulate (λ (k : ℕ). touches B k x) (B .coefficients)
 
--- "edges output by output, input by input": one output, then a layer of n outputs, that reads xs
-abbrev pub inputTouched : Basis → List Float → ℕ → List Bool
-inputTouched B xs i = edgeTouched B (at xs i)
-
+-- R2.6: edges output by output, input by input: one output, then a layer of n outputs, that reads xs
 unfoldable pub nodeTouched : Basis → List Float → List Bool
-nodeTouched B xs = flatTo (inputTouched B xs) (length xs)
+nodeTouched B xs = flatTo (λ (i : ℕ). edgeTouched B (at xs i)) (length xs)
 
 unfoldable pub layerTouched : Basis → List Float → ℕ → List Bool
 layerTouched B xs n = flatTo (λ (o : ℕ). nodeTouched B xs) n
 
--- n bytes 0
+-- R12.4: n bytes 0
 abbrev pub blank : ℕ → List ℕ
 blank n = tabulate (λ (p : ℕ). 0) n

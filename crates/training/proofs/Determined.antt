@@ -1,5 +1,5 @@
--- "Each public call's statement determines its answer and the final contents of all memory lent to it .. that any two outcomes
--- allowed by it coincide is itself shown" (document 01): the answer, the model, the gradients and the work.
+-- Each call's statement determines its answer and the final contents of all memory lent to it (R3.6): any two outcomes
+-- that it allows coincide, in the answer, the model, the gradients and the work.
 use mathlib.Core.Path.{_≡_, sym, _∙_}
 use Rattle.floats.proofs.Determined.{Determined}
 use Rattle.training.proofs.calls.train as train

@@ -1,24 +1,21 @@
 -- Steps one after the other: where training stands before step k, a step more, a stop, and the end. Assumes nothing.
 use mathlib.Core.Path.{_≡_, refl, sym, ap, _∙_}
 use mathlib.Core.Bool.{true}
-use mathlib.Core.List.{List, [], append-nil}
+use mathlib.Core.List.{List}
 use Prim.Native.Nat.{ℕ, zero, suc, _+_, _*_, _≤_, _<_}
 use native.Mathlib.Numerals.{add-one}
 use native.Mathlib.Omega.{arith}
 use lib.ListN.{length, drop}
-use lib.Ieee.{Float, nan}
-use lib.Ieee.Scale.{finite}
-use Rattle.floats.specs.Sums.{tabulate, at}
-use Rattle.floats.proofs.Loops.{tab-length, tab-get, all-each}
+use lib.Ieee.{Float}
+use Rattle.floats.specs.Sums.{allTo, allFinite}
+use Rattle.floats.proofs.Loops.{all-each}
 use Rattle.spline.specs.declared.Grid.{Grid}
 use Rattle.local_basis.specs.Fours.{Finite}
 use Rattle.layers.specs.Net.{Net}
 use Rattle.refusals.specs.Refusals.{_otherwise_, _then_, firstTo, doneTo, past}
 use Rattle.refusals.proofs.Firsts.{both-pass, test-passes, first-none, first-more, first-stop, done-all, done-stop}
-use Rattle.passes.specs.Pass.{rowsOf}
-use Rattle.batch_gradients.specs.Accumulate.{allPass}
-use Rattle.update.specs.Update.{movedAt, movedFinite, movesFinite, movedOf}
-use Rattle.training_step.specs.Step.{gradientOf, stepFault, stepped}
+use Rattle.passes.specs.Pass.{rowsOf, finiteRow}
+use Rattle.training_step.specs.Step.{stepFault, stepped}
 use Rattle.training_step.specs.Stages.{StepReady, Rests, StepDone}
 use Rattle.training.specs.declared.calls.Training.{Training}
 use Rattle.training.specs.declared.calls.Training.the-variants.{All, Stopped}
@@ -44,22 +41,13 @@ stopped zero k z = absurd (z refl)
 stopped (suc r) k z = refl
 
 -- ---- past 23 every parameter is finite again, as 11 found it
-moved-finite : (ps gs : List Float) (rate : Float) → movesFinite ps gs rate ≡ true
-    → Finite (length (movedOf ps gs rate)) (movedOf ps gs rate)
-unfolding movesFinite movedOf
-moved-finite ps gs rate e k h =
-    let f = movedAt ps gs rate in
-    let l : k < length ps = rw (tab-length f (length ps)) at h in
-    ap finite (ap (λ (z : List Float). at z k) (sym (append-nil (tabulate f (length ps)))) ∙ tab-get f (length ps) k l [] nan)
-    ∙ all-each (movedFinite ps gs rate) (length ps) e k l
-
 step-finite : (N : Net) (ws : List ℕ) (ps xs ts : List Float) (rate : Float) (gs W ps' gs' W' : List Float) (r : ℕ)
     → StepDone N ws ps xs ts rate gs W r ps' gs' W' → r ≡ 0 → Finite (length ps') ps'
-unfolding stepFault stepped
+unfolding stepFault allFinite
 step-finite N ws ps xs ts rate gs W ps' gs' W' r d z =
-    let moved : ps' ≡ movedOf ps (gradientOf N ps ws xs ts) rate = rw z at (d .model) in
-    let both = both-pass (allPass N ps ws xs (rowsOf ws xs) otherwise 20) _ (sym (d .refusal) ∙ z) in
-    rw moved (moved-finite ps (gradientOf N ps ws xs ts) rate (test-passes _ 22 (both .1)))
+    let moved : ps' ≡ stepped N ps ws xs ts rate = rw z at (d .model) in
+    let both = both-pass (allTo (finiteRow N ps ws xs) (rowsOf ws xs) otherwise 20) _ (sym (d .refusal) ∙ z) in
+    rw moved (all-each _ _ (test-passes _ 22 (both .1)))
 
 -- ---- slices of the same lengths are ready as well, with a finite model
 pub ready-moved : (g : Grid) (ws : List ℕ) (ps xs ts gs W ps' gs' W' : List Float) → StepReady g ws ps xs ts gs W → length ps' ≡ length ps

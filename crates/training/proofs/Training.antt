@@ -7,6 +7,7 @@ use native.Mathlib.Nat.{le-trans, le-of-eq}
 use native.Mathlib.Omega.{arith}
 use lib.ListN.{length, drop}
 use lib.Ieee.{Float}
+use Rattle.passes.specs.Pass.{from11To18}
 use Rattle.floats.specs.Sums.{zeros, allFinite}
 use Rattle.refusals.specs.declared.Refusal.{Refusal}
 use Rattle.refusals.specs.declared.Outcome.{Outcome}
@@ -58,7 +59,7 @@ module _ (N : Net) (ws : List ℕ) (ps xs ts : List Float) (steps : ℕ) (rate :
 
 -- ---- the checks before the first step
 pub wild : (ws : List ℕ) (ps xs ts : List Float) (rate : Float) → allFinite ps ≡ false → 11 ≡ from11To19 ps ws xs ts rate
-unfolding from11To19
+unfolding from11To18 from11To19
 wild ws ps xs ts rate e = rw e
 
 -- 12 to 19
@@ -67,7 +68,7 @@ from12To19 ws xs ts rate = batchFault (inputWidth ws) (outputWidth ws) xs ts the
 
 pub tame : (ws : List ℕ) (ps xs ts : List Float) (rate : Float) (n : ℕ) → allFinite ps ≡ true → n ≡ from12To19 ws xs ts rate
     → n ≡ from11To19 ps ws xs ts rate
-unfolding from11To19
+unfolding from11To18 from11To19
 tame ws ps xs ts rate n e f = rw e f
 
 pub sound-batch : (ws : List ℕ) (xs ts : List Float) (rate : Float) → 0 < inputWidth ws → 0 < outputWidth ws

@@ -1,6 +1,5 @@
--- `train_step` and `train` (document 01): "`train` refused at a later step keeps the earlier steps and says how many were
--- done; 0 steps still checks the batch and rate .. that count is the number of steps the definition applies before its first
--- refusal, or all asked for, and the final model is the definition's after that many". Definitions only.
+-- R10.9 to R10.11: `train_step` and `train`. The steps done are all that were asked for, or those before the first
+-- refused one, and the model is as that many left it; 0 steps make all checks up to 19. Definitions only.
 use Prim.Native.Nat.{ℕ, zero, suc, _+_, _*_}
 use mathlib.Core.Path.{_≡_}
 use mathlib.Core.Bool.{Bool, not, _&&_}
@@ -9,29 +8,27 @@ use lib.ListN.{length}
 use lib.Ieee.{Float, le}
 use lib.Ieee.Scale.{finite}
 use Rattle.floats.specs.Binary32.{zero32}
-use Rattle.floats.specs.Sums.{allFinite}
 use Rattle.refusals.specs.declared.Refusal.{Refusal}
 use Rattle.refusals.specs.declared.Outcome.{Outcome}
 use Rattle.refusals.specs.Refusals.{_otherwise_, _then_, firstTo, doneTo, past, none, outcomeOf}
 use Rattle.spline.specs.declared.Grid.{Grid}
 use Rattle.layers.specs.Net.{Net}
-use Rattle.layers.specs.Widths.{inputWidth, outputWidth, parametersIn, nodesIn}
-use Rattle.batches.specs.Batch.{batchFault}
-use Rattle.config.specs.Config.{carriedBy}
+use Rattle.layers.specs.Widths.{nodesIn}
+use Rattle.passes.specs.Pass.{from11To18}
+use Rattle.config.specs.Config.{carriedBy, parametersFor}
 use Rattle.admission.specs.Admission.{upTo9InTraining, swept}
 use Rattle.training.specs.declared.calls.Training.{Training}
 use Rattle.training.specs.declared.calls.Training.the-variants.{All, Stopped}
 use Rattle.training_step.specs.Step.{stepFault, stepped}
 
--- ---- past check 9: 11, the batch, and 19: "learning rate not finite or not above 0"
+-- ---- R3.4: past check 9: 11, the batch, and R10.2: 19, the rate is not finite or not above 0
 unfoldable pub rateSound : Float → Bool
 rateSound rate = finite rate && not (le rate zero32)
 
 unfoldable pub from11To19 : List Float → List ℕ → List Float → List Float → Float → ℕ
-from11To19 ps ws xs ts rate =
-    allFinite ps otherwise 11 then batchFault (inputWidth ws) (outputWidth ws) xs ts then rateSound rate otherwise 19
+from11To19 ps ws xs ts rate = from11To18 ps ws xs ts then rateSound rate otherwise 19
 
--- ---- steps, one after the other: the model after n of them, and what step s meets on the model after those before it
+-- ---- R10.9: steps, one after the other: the model after n of them, and what step s meets on the model before it
 unfoldable pub modelAfter : Net → List Float → List ℕ → List Float → List Float → Float → ℕ → List Float
 modelAfter N ps ws xs ts rate zero = ps
 modelAfter N ps ws xs ts rate (suc n) = stepped N (modelAfter N ps ws xs ts rate n) ws xs ts rate
@@ -39,7 +36,7 @@ modelAfter N ps ws xs ts rate (suc n) = stepped N (modelAfter N ps ws xs ts rate
 abbrev pub faultAt : Net → List Float → List ℕ → List Float → List Float → Float → ℕ → ℕ
 faultAt N ps ws xs ts rate s = stepFault N (modelAfter N ps ws xs ts rate s) ws xs ts rate
 
--- ---- the answer of `train`, and the refusal and the steps that it tells
+-- ---- R10.9, R3.2: the answer of `train`, and the refusal and the steps that it tells
 abbrev pub trainingOf : ℕ → ℕ → ℕ → Training
 trainingOf zero carried done = All done
 trainingOf (suc n) carried done = Stopped (record { number = suc n; carried = carried; done = done })
@@ -52,36 +49,38 @@ abbrev pub stepsDone : Training → ℕ
 stepsDone (All steps) = steps
 stepsDone (Stopped s) = s .done
 
--- ---- the whole calls: the answer, and all lent memory. A step is training of one step.
+-- ---- R10.9, R3.4: the whole calls: the answer, and all lent memory. A step is training of one step (R10.11).
 module _ (N : Net) (ws : List ℕ) (g : Grid) (ps xs ts : List Float) (rate : Float) (gs W : List Float) where
   abbrev to9 : ℕ
   to9 = upTo9InTraining ws g (length ps) (length gs) (length W)
 
-  -- all checks before the first step
+  -- R10.9: all checks before the first step
   unfoldable pub upTo19 : ℕ
   upTo19 = to9 then from11To19 ps ws xs ts rate
 
-  -- the refusal, and how many steps are done: none where a check before them refuses
+  -- R10.9: the refusal, and how many steps are done: none where a check before them refuses
   unfoldable pub trainFault : ℕ → ℕ
   trainFault steps = upTo19 then firstTo (faultAt N ps ws xs ts rate) steps
 
   unfoldable pub trainDone : ℕ → ℕ
   trainDone steps = past upTo19 (doneTo (faultAt N ps ws xs ts rate) steps) 0
 
-  -- 7 carries the total, and no refusal past the configuration carries anything
+  -- R3.2: 7 carries the total, and no refusal past the configuration carries anything
   abbrev carried : ℕ
-  carried = carriedBy to9 (parametersIn (g .intervals + 5) ws)
+  carried = carriedBy to9 (parametersFor ws g)
 
-  -- what both calls leave of the model and of the work
+  -- R3.6, R10.9: what both calls leave of the model and of the work
   pub record TrainingLeaves (steps : ℕ) (ps′ gs′ W′ : List Float) : Type 0 where
     pub model : ps′ ≡ modelAfter N ps ws xs ts rate (trainDone steps)
-    pub gradients : gs′ ≡ swept to9 (parametersIn (g .intervals + 5) ws) gs
+    pub gradients : gs′ ≡ swept to9 (parametersFor ws g) gs
     pub work : W′ ≡ swept to9 (2 * nodesIn ws) W
 
+  -- R10.9: `train`
   pub record Trained (steps : ℕ) (r : Training) (ps′ gs′ W′ : List Float) : Type 0 where
     pub answer : r ≡ trainingOf (trainFault steps) carried (trainDone steps)
     pub leaves : TrainingLeaves steps ps′ gs′ W′
 
+  -- R10.11: `train_step`
   pub record Stepped (r : Outcome) (ps′ gs′ W′ : List Float) : Type 0 where
     pub answer : r ≡ outcomeOf (trainFault 1) carried
     pub leaves : TrainingLeaves 1 ps′ gs′ W′

@@ -46,13 +46,14 @@ fn training_fault(widths: &[usize], inputs: &[f32], targets: &[f32], rate: f32) 
 {
     let last = widths.len() - 1;
     let batch = batches::batch_fault(inputs, targets, widths[0], widths[last]);
+    let sound = rate_sound(rate);
     if batch != 0 {
         return batch;
     }
-    if rate_sound(rate) {
-        return 0;
+    if !sound {
+        return 19;
     }
-    19
+    0
 }
 
 // Steps in order, up to the first that is refused; those before it stay. The table of E is laid out once for all.

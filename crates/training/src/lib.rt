@@ -1,4 +1,4 @@
-// Public crate: training. Each call takes all arguments and answers, or refuses by document 01's number; one record says the
+// Public crate: training. Each call takes all arguments and answers, or refuses by number (R3.1); one record says the
 // answer and the final contents of everything that was lent.
 mod calls;
 

@@ -5,15 +5,15 @@ use mathlib.Core.Bool.{Bool, true}
 use mathlib.Core.List.{List}
 use lib.ListN.{length, take, drop}
 use lib.Ieee.{Float}
+use Rattle.floats.specs.Sums.{allTo}
 use Rattle.refusals.specs.Refusals.{past}
 use Rattle.spline.specs.declared.Grid.{Grid}
 use Rattle.local_basis.specs.Fours.{Finite}
 use Rattle.layers.specs.Net.{Net}
 use Rattle.layers.specs.Widths.{inputWidth, outputWidth}
 use Rattle.batches.specs.Sound.{SoundBatch}
-use Rattle.passes.specs.Pass.{rowsOf}
+use Rattle.passes.specs.Pass.{rowsOf, finiteRow}
 use Rattle.row_gradients.specs.Calls.{twoN, WorkFits}
-use Rattle.batch_gradients.specs.Accumulate.{allPass}
 use Rattle.training_step.specs.Step.{gradientOf, stepFault, stepped}
 
 -- what was lent is enough: checks 8 and 9 are passed
@@ -35,7 +35,7 @@ pub record Rests (ws : List ℕ) (ps gs W gs′ W′ : List Float) : Type 0 wher
 module _ (N : Net) (ws : List ℕ) (ps xs ts : List Float) where
   -- the batch's gradients, where every row passes 20
   pub record GatherDone (gs W : List Float) (r : Bool) (gs′ W′ : List Float) : Type 0 where
-    pub passed : r ≡ allPass N ps ws xs (rowsOf ws xs)
+    pub passed : r ≡ allTo (finiteRow N ps ws xs) (rowsOf ws xs)
     pub gradients : r ≡ true → take (length ps) gs′ ≡ gradientOf N ps ws xs ts
     pub rests : Rests ws ps gs W gs′ W′
 

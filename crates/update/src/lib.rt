@@ -3,12 +3,13 @@
 ghost use mathlib.Core.Path.{_≡_};
 ghost use Prim.Native.Nat.{_≤_};
 ghost use lib.ListN.{length};
-ghost use Rattle.update.specs.Update.{movesFinite, movedOf};
+ghost use Rattle.floats.specs.Sums.{allFinite};
+ghost use Rattle.update.specs.Update.{movedOf};
 ghost use Rattle.update.specs.Calls.{Applied};
 
 fn moves_finite(model: &[f32], gradients: &[f32], rate: f32) -> bool
     requires { ⌜ length (now model) ≤ length (now gradients) ⌝ }
-    ensures { λ r. ⌜ r ≡ movesFinite (now (model .entry)) (now (gradients .entry)) rate ⌝ }
+    ensures { λ r. ⌜ r ≡ allFinite (movedOf (now (model .entry)) (now (gradients .entry)) rate) ⌝ }
 {
     let mut sound = true;
     for i in 0..model.len() {

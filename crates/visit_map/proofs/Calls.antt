@@ -26,7 +26,7 @@ use Rattle.passes.specs.Pass.{rowsOf, refusalAt}
 use Rattle.passes.specs.Turns.{Past}
 use Rattle.passes.proofs.Admitted.{Admitted, swept-end}
 use Rattle.touched_layer.specs.Touched.{blank}
-use Rattle.visit_map.specs.Visits.{marksOf, upTo11, visitRefusal, visitCarried, visitMarks, Visited}
+use Rattle.visit_map.specs.Visits.{marksOf, mapUpTo11, visitRefusal, visitCarried, visitMarks, Visited}
 use Rattle.visit_map.specs.Steps.{Unswept}
 
 -- ---- an answer by n checks and then `rows`, where the checks refuse and where they pass
@@ -66,8 +66,8 @@ module _ (ws : List ℕ) (g : Grid) (ps : List Float) (first second map : ℕ) w
   abbrev total : ℕ
   total = parametersIn (g .intervals + 5) ws
 
-  pub past11 : upTo11 ws g ps first second map ≡ 0 → Past11 ws g ps first second map
-  unfolding upTo11
+  pub past11 : mapUpTo11 ws g ps first second map ≡ 0 → Past11 ws g ps first second map
+  unfolding mapUpTo11
   past11 e =
       let after9 = both-pass (upTo9 ws g (length ps) first second) _ e in
       let after10 = both-pass (eqb map total otherwise 10) _ (after9 .1) in
@@ -78,16 +78,16 @@ module _ (ws : List ℕ) (g : Grid) (ps : List Float) (first second map : ℕ) w
       }
 
   module _ (e : upTo9 ws g (length ps) first second ≡ 0) where
-    stops10 : (map ≡ total → ⊥) → upTo11 ws g ps first second map ≡ 10
-    unfolding upTo11
+    stops10 : (map ≡ total → ⊥) → mapUpTo11 ws g ps first second map ≡ 10
+    unfolding mapUpTo11
     stops10 h = rw (e, ne-eqb map total h)
 
-    stops11 : map ≡ total → allFinite ps ≡ false → upTo11 ws g ps first second map ≡ 11
-    unfolding upTo11
+    stops11 : map ≡ total → allFinite ps ≡ false → mapUpTo11 ws g ps first second map ≡ 11
+    unfolding mapUpTo11
     stops11 h w = rw (e, eq-eqb map total h, w)
 
-    pub passes11 : map ≡ total → allFinite ps ≡ true → upTo11 ws g ps first second map ≡ 0
-    unfolding upTo11
+    pub passes11 : map ≡ total → allFinite ps ≡ true → mapUpTo11 ws g ps first second map ≡ 0
+    unfolding mapUpTo11
     passes11 h w = rw (e, eq-eqb map total h, w)
 
 module _ (N : Net) (ws : List ℕ) (g : Grid) (ps xs a b : List Float) (ms : List ℕ) where
@@ -98,7 +98,7 @@ module _ (N : Net) (ws : List ℕ) (g : Grid) (ps xs a b : List Float) (ms : Lis
   to9 = upTo9 ws g (length ps) (length a) (length b)
 
   abbrev checks : ℕ
-  checks = upTo11 ws g ps (length a) (length b) (length ms)
+  checks = mapUpTo11 ws g ps (length a) (length b) (length ms)
 
   abbrev f : ℕ → ℕ
   f = refusalAt N ps ws xs
@@ -161,7 +161,7 @@ module _ (N : Net) (ws : List ℕ) (g : Grid) (ps xs a b : List Float) (ms : Lis
 
   -- ---- the checks up to 9 refuse, or the work is done and swept
   pub not-begun : (r : Refusal) → Rejected to9 (sizesOf ws g) r → Visited N ws g ps xs a b ms (Refused r) a b ms
-  unfolding upTo11
+  unfolding mapUpTo11
   not-begun r j =
       let same : to9 ≡ checks = then-first to9 _ (j .stopped) in
       let h : (checks ≡ 0 → ⊥) = λ (z : checks ≡ 0). j .stopped (same ∙ z) in

@@ -26,7 +26,7 @@ use Rattle.touched_layer.specs.Marks.{markedBy}
 use Rattle.touched_layer.proofs.Marking.{marked-length, marked-get}
 use Rattle.touched_row.specs.Touched.{rowTouched}
 use Rattle.touched_row.specs.RowMarks.{Markable, RowMarked}
-use Rattle.visit_map.specs.Visits.{anyTo, touchedIn, byteOf, byteAt, marksOf, upTo11}
+use Rattle.visit_map.specs.Visits.{anyTo, touchedIn, byteOf, byteAt, marksOf, mapUpTo11}
 use Rattle.visit_map.specs.Steps.{Unswept}
 use Rattle.visit_map.proofs.Calls.{refusedWith, past11, row-refused, all-rows}
 
@@ -91,14 +91,14 @@ before-first {N} {ps} {ws} {xs} {n} {a} {b} d ms e p = record {
 -- ---- row r of a call that is past check 11
 pub record RowTurn (g : Grid) (ps : List Float) (ws : List ℕ) (xs a₀ b₀ : List Float) (ms₀ : List ℕ) (r : ℕ)
     (a b : List Float) (ms : List ℕ) : Type 0 where
-  pub checks : upTo11 ws g ps (length a₀) (length b₀) (length ms₀) ≡ 0
+  pub checks : mapUpTo11 ws g ps (length a₀) (length b₀) (length ms₀) ≡ 0
   pub more : r < rowsOf ws xs
   pub visiting : Visiting (netOf g) ps ws xs (parametersIn (g .intervals + 5) ws) a₀ b₀ r a b ms
 
 -- ---- and after it was marked, with the number k
 pub record RowLeft (g : Grid) (ps : List Float) (ws : List ℕ) (xs a₀ b₀ : List Float) (ms₀ : List ℕ) (r k : ℕ)
     (a b : List Float) (ms : List ℕ) : Type 0 where
-  pub checks : upTo11 ws g ps (length a₀) (length b₀) (length ms₀) ≡ 0
+  pub checks : mapUpTo11 ws g ps (length a₀) (length b₀) (length ms₀) ≡ 0
   pub more : r < rowsOf ws xs
   pub sound : firstTo (refusalAt (netOf g) ps ws xs) r ≡ 0
   pub ranRow : RanRow (netOf g) ps ws xs a₀ b₀ r a b k
@@ -156,7 +156,7 @@ module _ {g : Grid} {ps : List Float} {ws : List ℕ} {xs a₀ b₀ : List Float
 
 -- ---- the end
 pub visited-all : {g : Grid} {ps : List Float} {ws : List ℕ} {xs a₀ b₀ : List Float} {ms₀ : List ℕ} {r : ℕ}
-    {a b : List Float} {ms : List ℕ} → upTo11 ws g ps (length a₀) (length b₀) (length ms₀) ≡ 0 → r ≡ rowsOf ws xs
+    {a b : List Float} {ms : List ℕ} → mapUpTo11 ws g ps (length a₀) (length b₀) (length ms₀) ≡ 0 → r ≡ rowsOf ws xs
     → Visiting (netOf g) ps ws xs (parametersIn (g .intervals + 5) ws) a₀ b₀ r a b ms
     → Unswept (netOf g) ws g ps xs a₀ b₀ ms₀ Done a b ms
 visited-all {g} {ps} {ws} {xs} {a₀} {b₀} {ms₀} {r} c e v =

@@ -1,10 +1,10 @@
 // Public crate: the visit map, which parameters of a model a batch touches. It takes all arguments and answers, or
-// refuses by document 01's number; one record says the answer and the final contents of everything that was lent.
+// refuses by number (R3.1); one record says the answer and the final contents of everything that was lent.
 ghost use mathlib.Core.Path.{_≡_};
 ghost use lib.ListN.{length};
 ghost use Rattle.layers.specs.Net.{netOf, Net};
 ghost use Rattle.admission.specs.Admission.{upTo9};
-ghost use Rattle.visit_map.specs.Visits.{upTo11, Visited};
+ghost use Rattle.visit_map.specs.Visits.{mapUpTo11, Visited};
 ghost use Rattle.visit_map.specs.Steps.{Unswept};
 use admission::check_work;
 use config::Checked;
@@ -22,7 +22,7 @@ fn mark_rows(
     second: &mut [f32],
     map: &mut [u8],
 ) -> Outcome
-    requires { ⌜ upTo11 (now widths) grid (now model) (length (now first)) (length (now second)) (length (now map))
+    requires { ⌜ mapUpTo11 (now widths) grid (now model) (length (now first)) (length (now second)) (length (now map))
         ≡ 0 ⌝ }
     ensures { λ r. ⌜ Unswept (netOf grid) (now (widths .entry)) grid (now (model .entry)) (now (inputs .entry))
         (now (first .entry)) (now (second .entry)) (now (map .entry)) r (now (first .exit)) (now (second .exit))

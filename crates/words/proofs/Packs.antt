@@ -3,11 +3,22 @@ use mathlib.Core.Path.{_≡_, refl, _∙_}
 use mathlib.Core.List.{List, [], _∷_, _++_}
 use Prim.Native.Nat.{ℕ, _+_, _-_, _*_, _≤_}
 use native.Mathlib.Omega.{arith}
-use lib.ListN.{length, take, drop, set}
-use lib.Ieee.{Float}
+use lib.ListN.{length, take, drop, set, getD}
+use lib.Ieee.{Float, binary32, toBits}
 use borrow.Rule.Slice.PartMut.{putMid}
+use Rattle.floats.specs.Sums.{at}
 use Rattle.floats.proofs.Loops.{flat-none, flat-length, part-more, rest}
-use Rattle.words.specs.Words.{bytesOf, bytesAt, packed, packedWords, packedFloats}
+use Rattle.words.specs.Words.{bytesOf, packed, packedWords, packedFloats}
+
+-- the words that are packed: of a list of words, and of a list of numbers; and their bytes
+abbrev pub wordIn : List ℕ → ℕ → ℕ
+wordIn ws i = getD ws i 0
+
+abbrev pub bitsIn : List Float → ℕ → ℕ
+bitsIn xs i = toBits binary32 (at xs i)
+
+abbrev bytesAt : (ℕ → ℕ) → ℕ → List ℕ
+bytesAt f i = bytesOf (f i)
 
 -- a word is four stores
 pub four-stores : (b : List ℕ) (w x y z : ℕ) → 4 ≤ length b

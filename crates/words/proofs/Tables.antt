@@ -6,7 +6,7 @@ use Prim.Native.Nat.{ℕ, _+_, _*_, _<_}
 use lib.ListN.{length, getD}
 use lib.Ieee.{nan}
 use lib.Ieee.Scale.{finite}
-use Rattle.floats.specs.Sums.{tabulate, at, finiteAt, allTo}
+use Rattle.floats.specs.Sums.{tabulate, at, allTo}
 use Rattle.floats.proofs.Loops.{tab-get, tab-length, all-stop}
 use Rattle.words.specs.Words.{wordAt, floatAt, wordsFrom, floatsIn}
 
@@ -37,5 +37,5 @@ pub float-at : (bs : List ℕ) (n i : ℕ) → i < n → at (floatsIn bs n) i �
 unfolding floatsIn
 float-at bs n i h = tab-at _ n i nan h
 
-pub finite-at : (bs : List ℕ) (n i : ℕ) → i < n → finite (floatAt bs (i * 4)) ≡ finiteAt (floatsIn bs n) i
+pub finite-at : (bs : List ℕ) (n i : ℕ) → i < n → finite (floatAt bs (i * 4)) ≡ finite (at (floatsIn bs n) i)
 finite-at bs n i h = ap finite (sym (float-at bs n i h))

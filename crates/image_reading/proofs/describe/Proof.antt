@@ -2,7 +2,7 @@
 use native.Mathlib.Omega.{arith}
 use mathlib.Core.Path.{_≡_, sym, _∙_}
 use Rattle.image_reading.specs.declared.Described.the-variants.{Sound}
-use Rattle.image_reading.specs.Image.{surveyOf}
+use Rattle.image_reading.specs.Stages.{surveyOf}
 use Rattle.image_reading.proofs.Parts.{surveyed-room, survey-stops, all-sound, some-unsound}
 use borrow.Author.Needs.{needs}
 use Rattle.image_reading.proofs.describe.Statement.{statement}

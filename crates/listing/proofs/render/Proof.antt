@@ -3,7 +3,7 @@ use mathlib.Core.Path.{_≡_, sym, _∙_}
 use borrow.Author.Needs.{needs}
 use Rattle.image_reading.specs.declared.Described.the-variants.{Sound, Refused}
 use Rattle.image_reading.specs.Image.{describeOf}
-use Rattle.listing.specs.Listing.{refusedLabel, refusedLine}
+use Rattle.listing.specs.Listing.{refusedLabel}
 use Rattle.text.proofs.Appends.{retold}
 use Rattle.listing.proofs.Listed.{listable, enough, list-long, list-refused, list-sound}
 use Rattle.listing.proofs.render.Statement.{statement}
@@ -36,7 +36,7 @@ same-length : tie.Need-same-length
 same-length c = search needs
 
 returns : tie.Need-returns
-unfolding refusedLine refusedLabel
+unfolding refusedLabel
 returns c =
     let line = c .before .before in
     let long = line .before .before .before .if1 .taken in
@@ -72,7 +72,7 @@ same-length-2 : tie.Need-same-length-2
 same-length-2 c = search needs
 
 returns-2 : tie.Need-returns-2
-unfolding refusedLine refusedLabel
+unfolding refusedLabel
 returns-2 c =
     let line = c .before .before in
     let told = refusal line in

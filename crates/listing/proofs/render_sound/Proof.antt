@@ -2,7 +2,7 @@
 use native.Mathlib.Omega.{arith}
 use borrow.Author.Needs.{needs}
 use Rattle.text.proofs.Appends.{both}
-use Rattle.listing.specs.Listing.{totalLabel, totalLine, soundText}
+use Rattle.listing.specs.Listing.{totalLabel, soundText}
 use Rattle.listing.proofs.render_sound.Statement.{statement}
 use Rattle.listing.proofs.render_sound.Tie as tie
 
@@ -46,7 +46,7 @@ same-length : tie.Need-same-length
 same-length c = search needs
 
 returns : tie.Need-returns
-unfolding soundText totalLine totalLabel
+unfolding soundText totalLabel
 returns c =
     let total = c .before .before in
     let lines = layers total in

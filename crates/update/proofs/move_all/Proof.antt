@@ -6,7 +6,8 @@ use native.Mathlib.Omega.{arith}
 use lib.ListN.{length, drop, length-set}
 use Rattle.floats.specs.Sums.{tabulate}
 use Rattle.floats.proofs.Loops.{tab-none, tab-more, tab-rest, tab-whole}
-use Rattle.update.specs.Update.{movedAt, movedOf}
+use Rattle.update.specs.Update.{movedOf}
+use Rattle.update.specs.Calls.{movedAt}
 use Rattle.update.proofs.move_all.Statement.{statement}
 use Rattle.update.proofs.move_all.Tie as tie
 

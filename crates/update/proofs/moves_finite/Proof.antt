@@ -1,18 +1,20 @@
 -- `update::moves_finite` meets its contract. Assumes nothing.
 use borrow.Author.Needs.{needs}
 use mathlib.Core.Path.{_≡_, sym, ap, _∙_}
-use Prim.Native.Nat.{_≤_, _-_}
+use Prim.Native.Nat.{ℕ, _≤_, _-_}
 use native.Mathlib.Omega.{arith}
 use lib.ListN.{length}
+use lib.Ieee.Scale.{finite}
 use Rattle.floats.specs.Sums.{allTo}
-use Rattle.floats.proofs.Loops.{all-none, all-also}
-use Rattle.update.specs.Update.{movedFinite, movesFinite}
+use Rattle.floats.proofs.Loops.{all-none, all-also, all-table}
+use Rattle.update.specs.Update.{movedOf}
+use Rattle.update.specs.Calls.{movedAt}
 use Rattle.update.proofs.moves_finite.Statement.{statement}
 use Rattle.update.proofs.moves_finite.Tie as tie
 
 abbrev Inv-loop : tie.InvT-loop
 Inv-loop model gradients rate sound₀ i₀ i-end sound i =
-    (i ≤ length model) × (sound ≡ allTo (movedFinite model gradients rate) i)
+    (i ≤ length model) × (sound ≡ allTo (λ (k : ℕ). finite (movedAt model gradients rate k)) i)
 
 abbrev μ-loop : tie.MeasureT-loop
 μ-loop model gradients rate sound₀ i₀ i-end sound i = length model - i
@@ -45,8 +47,8 @@ loop-again : tie.Need-loop-again Inv-loop μ-loop
 loop-again c = (omega arith, all-also _ _ _ _ (c .before .before .before .before .loop .inv .1) (c .is-finite .ensures))
 
 returns : tie.Need-returns Inv-loop μ-loop
-unfolding movesFinite
-returns c = c .before .loop .inv .1 ∙ ap (allTo _) (omega arith)
+unfolding movedOf
+returns c = c .before .loop .inv .1 ∙ ap (allTo _) (omega arith) ∙ sym (all-table _ _)
 
 pub moves-finite-spec : {M : Type 1} → statement M
 moves-finite-spec =

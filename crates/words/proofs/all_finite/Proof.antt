@@ -8,7 +8,7 @@ use mathlib.Core.Bool.{Bool, true}
 use lib.Ieee.{binary32, ofBits}
 use lib.Ieee.Scale.{finite}
 use borrow.Author.Tests.{not-true, not-false}
-use Rattle.floats.specs.Sums.{allTo, finiteAt, allFinite}
+use Rattle.floats.specs.Sums.{allTo, at, allFinite}
 use Rattle.floats.proofs.Loops.{all-none, all-more, all-stop}
 use Rattle.words.specs.Words.{wordAt, floatsIn}
 use Rattle.words.proofs.Tables.{floats-length, finite-at}
@@ -16,14 +16,14 @@ use Rattle.words.proofs.all_finite.Statement.{statement}
 use Rattle.words.proofs.all_finite.Tie as tie
 
 abbrev Inv-loop : tie.InvT-loop
-Inv-loop bytes count i₀ i = (i ≤ count) × (allTo (finiteAt (floatsIn bytes count)) i ≡ true)
+Inv-loop bytes count i₀ i = (i ≤ count) × (allTo (λ (k : ℕ). finite (at (floatsIn bytes count) k)) i ≡ true)
 
 abbrev μ-loop : tie.MeasureT-loop
 μ-loop bytes count i₀ i = count - i
 
 -- what the test of a word says of the numbers
 seen : (bs : List ℕ) (i n w : ℕ) (r : Bool) → i < n → w ≡ wordAt bs (i * 4) → r ≡ finite (ofBits binary32 w)
-    → r ≡ finiteAt (floatsIn bs n) i
+    → r ≡ finite (at (floatsIn bs n) i)
 seen bs i n w r h p q = q ∙ ap (λ (v : ℕ). finite (ofBits binary32 v)) p ∙ finite-at bs n i h
 
 -- ---- from place to place, and what the test of a word says there
@@ -35,7 +35,7 @@ head c = turn c .before
 
 tested : (c : tie.After-is-finite Inv-loop μ-loop)
     → let a = head c .before .before .args in
-    c .is-finite .result ≡ finiteAt (floatsIn (a .bytes .now) (a .count)) (head c .loop .i)
+    c .is-finite .result ≡ finite (at (floatsIn (a .bytes .now) (a .count)) (head c .loop .i))
 tested c =
     seen _ (head c .loop .i) _ _ _ (turn c .loop-test .taken) (c .before .word .ensures) (c .is-finite .ensures)
 

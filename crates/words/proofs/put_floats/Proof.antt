@@ -6,8 +6,8 @@ use native.Mathlib.Omega.{arith}
 use lib.ListN.{length, drop}
 use Rattle.floats.specs.Sums.{allFinite}
 use Rattle.floats.proofs.Loops.{rest-length}
-use Rattle.words.specs.Words.{bitsIn, packed, packedFloats}
-use Rattle.words.proofs.Packs.{pack-none, pack-more}
+use Rattle.words.specs.Words.{packed, packedFloats}
+use Rattle.words.proofs.Packs.{bitsIn, pack-none, pack-more}
 use Rattle.words.proofs.Patterns.{finite-number}
 use Rattle.words.proofs.Tables.{all-at}
 use Rattle.words.proofs.put_floats.Statement.{statement}

@@ -1,7 +1,7 @@
 -- `batch_gradients::accumulate` meets its contract: after r turns r rows have passed 20 and are added. Assumes nothing.
 use borrow.Author.Tests.{not-true, not-false}
-use Prim.Native.Nat.{_-_, _≤_}
-use mathlib.Core.Path.{_≡_, sym, ap, _∙_}
+use Prim.Native.Nat.{ℕ, _-_, _≤_, _<_}
+use mathlib.Core.Path.{_≡_, sym, ap, subst, _∙_}
 use native.Mathlib.Omega.{arith}
 use lib.ListN.{length}
 use Rattle.layers.specs.Net.{netOf}
@@ -62,7 +62,7 @@ turning c =
       fits = pre .0;
       full = pre .1;
       same = pre .2;
-      more = rw (k .before .rows-in .ensures) at (c .loop-test .taken);
+      more = subst (λ (n : ℕ). k .loop .r < n) (k .before .rows-in .ensures) (c .loop-test .taken);
       added = k .loop .inv .1;
     }
 

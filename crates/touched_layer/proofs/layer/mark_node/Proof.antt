@@ -1,16 +1,23 @@
 -- `touched_layer::mark_node` meets its contract: after i turns i edges are marked. Assumes nothing.
 use mathlib.Core.Path.{_≡_}
-use Prim.Native.Nat.{_+_, _-_, _≤_}
+use mathlib.Core.Bool.{Bool}
+use mathlib.Core.List.{List}
+use Prim.Native.Nat.{ℕ, _+_, _-_, _≤_}
 use native.Mathlib.Omega.{arith}
 use lib.ListN.{length}
-use Rattle.floats.specs.Sums.{flatTo}
+use lib.Ieee.{Float}
+use Rattle.floats.specs.Sums.{flatTo, at}
+use Rattle.layers.specs.Basis.{Basis}
 use Rattle.layers.specs.Net.{basisOf}
-use Rattle.touched_layer.specs.Touched.{inputTouched, nodeTouched}
+use Rattle.touched_layer.specs.Touched.{edgeTouched, nodeTouched}
 use Rattle.touched_layer.specs.Marks.{markedBy}
 use Rattle.touched_layer.proofs.Marking.{marked-first, marked-size, PartTurn, part-in, part-room, one-part}
 use Rattle.touched_layer.proofs.Layers.{edge-length}
 use Rattle.touched_layer.proofs.layer.mark_node.Statement.{statement}
 use Rattle.touched_layer.proofs.layer.mark_node.Tie as tie
+
+abbrev inputTouched : Basis → List Float → ℕ → List Bool
+inputTouched B xs i = edgeTouched B (at xs i)
 
 abbrev Inv-loop : tie.InvT-loop
 Inv-loop mesh inputs map₀ stride i₀ i-end map i =

@@ -2,6 +2,7 @@
 use mathlib.Core.Path.{_≡_, sym, _∙_}
 use Rattle.refusals.proofs.Firsts.{then-first}
 use borrow.Author.Needs.{needs}
+use borrow.Author.Tests.{not-true, not-false}
 use Rattle.training.proofs.calls.training_fault.Statement.{statement}
 use Rattle.training.proofs.calls.training_fault.Tie as tie
 
@@ -20,21 +21,23 @@ shared-slice-read-batch-fault-2 c = search needs
 batch-fault-requires : tie.Need-batch-fault-requires
 batch-fault-requires c κs = search needs
 
-returns : tie.Need-returns
-returns c = rw (← c .before .batch-fault .ensures) (then-first _ _ (c .if1 .taken))
-
 rate-sound-requires : tie.Need-rate-sound-requires
 rate-sound-requires c κs = search needs
 
+returns : tie.Need-returns
+returns c = rw (← c .before .before .batch-fault .ensures) (then-first _ _ (c .if1 .taken))
+
 returns-2 : tie.Need-returns-2
 returns-2 c =
-    let at-batch-fault = c .before .before .before in
-    rw (← at-batch-fault .batch-fault .ensures, c .before .before .if1 .left, ← c .before .rate-sound .ensures, c .if2 .taken)
+    let at-rate-sound = c .before .before in
+    let told = not-true (at-rate-sound .rate-sound .result) (c .if2 .taken) in
+    rw (← at-rate-sound .before .batch-fault .ensures, c .before .if1 .left, ← at-rate-sound .rate-sound .ensures, told)
 
 returns-3 : tie.Need-returns-3
 returns-3 c =
-    let at-batch-fault = c .before .before .before in
-    rw (← at-batch-fault .batch-fault .ensures, c .before .before .if1 .left, ← c .before .rate-sound .ensures, c .if2 .left)
+    let at-rate-sound = c .before .before in
+    let told = not-false (at-rate-sound .rate-sound .result) (c .if2 .left) in
+    rw (← at-rate-sound .before .batch-fault .ensures, c .before .if1 .left, ← at-rate-sound .rate-sound .ensures, told)
 
 pub training-fault-spec : {M : Type 1} → statement M
 training-fault-spec =
@@ -45,7 +48,7 @@ training-fault-spec =
     mul-batch-fault
     shared-slice-read-batch-fault-2
     batch-fault-requires
-    returns
     rate-sound-requires
+    returns
     returns-2
     returns-3)

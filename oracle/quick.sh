@@ -11,8 +11,10 @@ compare() {
     return $status
 }
 
+oracle/circles.sh
 for archive in leaves estimator; do
-    rt staticlib $archive >/tmp/estimator-archive.log 2>&1 || { cat /tmp/estimator-archive.log; exit 1; }
+    mkdir -p target/log
+    rt staticlib $archive >target/log/$archive.txt 2>&1 || { cat target/log/$archive.txt; exit 1; }
 done
 compare self-test
 compare leaves --every 4099 --basis 2000

@@ -1,7 +1,8 @@
 //! One call on a network with everything that is lent to it: before, after, and what two ends of it differ in.
 
+use crate::compared::{Column, Compared, Line, DEFAULT_4, LATER_20, LATER_23};
 use crate::lent::{Cell, Lent};
-use crate::outcomes::{Column, Compared, Line, DEFAULT_4, LATER_20, LATER_23};
+use crate::nans::{fill, first_not_finite, NanAt};
 use crate::ported::Grid;
 use crate::reading::training::{self, Lesson, Room};
 use crate::reading::visits;
@@ -180,18 +181,7 @@ impl Compared for Call {
         for (name, proved, read) in numbers {
             compare(&mut lines, name, proved, read);
         }
-        let floats = [
-            ("loss", &self.loss, &reading.loss),
-            ("model", &self.model, &reading.model),
-            ("inputs", &self.inputs, &reading.inputs),
-            ("targets", &self.targets, &reading.targets),
-            ("first", &self.first, &reading.first),
-            ("second", &self.second, &reading.second),
-            ("gradients", &self.gradients, &reading.gradients),
-            ("work", &self.work, &reading.work),
-            ("outputs", &self.outputs, &reading.outputs),
-        ];
-        for (name, proved, read) in floats {
+        for ((name, proved), (_, read)) in self.floats().into_iter().zip(reading.floats()) {
             compare(&mut lines, name, proved, read);
         }
         compare(&mut lines, "map", &self.map, &reading.map);
@@ -223,6 +213,50 @@ impl Compared for Call {
         }
     }
 
+    fn floats(&self) -> Vec<(&'static str, &Lent<f32>)> {
+        vec![
+            ("model", &self.model),
+            ("inputs", &self.inputs),
+            ("targets", &self.targets),
+            ("first", &self.first),
+            ("second", &self.second),
+            ("gradients", &self.gradients),
+            ("work", &self.work),
+            ("outputs", &self.outputs),
+            ("loss", &self.loss),
+        ]
+    }
+
+    /// Of training, the answer of no steps: what they meet does not come from numbers that are not finite.
+    fn expected(&self) -> (u32, usize) {
+        let mut call = self.clone();
+        if matches!(self.kind, Kind::TrainStep | Kind::Train) {
+            call.kind = Kind::Train;
+            call.steps = 0;
+        }
+        call.read().answer()
+    }
+
+    fn with_nans(mut self, (number, row): (u32, usize), nan_at: NanAt) -> Self {
+        let (model, inputs, targets) = (
+            self.unread_model(number),
+            self.unread_inputs(number, row),
+            self.unread_targets(number),
+        );
+        fill(&mut self.model, model, nan_at);
+        fill(&mut self.inputs, inputs, nan_at);
+        fill(&mut self.targets, targets, nan_at);
+        fill(&mut self.first, 0, nan_at);
+        fill(&mut self.second, 0, nan_at);
+        fill(&mut self.gradients, 0, nan_at);
+        fill(&mut self.work, 0, nan_at);
+        fill(&mut self.outputs, 0, nan_at);
+        if self.kind == Kind::Loss {
+            fill(&mut self.loss, 0, nan_at);
+        }
+        self
+    }
+
     fn steps(&self) -> u64 {
         match self.kind {
             Kind::TrainStep => u64::from(self.number == 0),
@@ -230,6 +264,49 @@ impl Compared for Call {
             _ => 0,
         }
     }
+}
+
+/// From which place on the numbers that a call reads do not decide its answer, which has this number.
+impl Call {
+    fn unread_model(&self, number: u32) -> usize {
+        match number {
+            _ if self.kind == Kind::Initialise => 0,
+            1..=10 => 0,
+            11 => first_not_finite(&self.model),
+            _ => self.model.len(),
+        }
+    }
+
+    /// Prediction and the map look at a row once those before it are done, and carry the one that they refuse.
+    fn is_by_rows(&self) -> bool {
+        matches!(self.kind, Kind::Predict | Kind::Visits)
+    }
+
+    fn unread_inputs(&self, number: u32, row: usize) -> usize {
+        let width = self.widths.contents().first();
+        match (number, width) {
+            (1..=13, _) => 0,
+            (14, Some(width)) => short_row(&self.inputs, *width),
+            (15, _) => first_not_finite(&self.inputs),
+            (20, Some(width)) if self.is_by_rows() => (row + 1) * width,
+            _ => self.inputs.len(),
+        }
+    }
+
+    fn unread_targets(&self, number: u32) -> usize {
+        let width = self.widths.contents().last();
+        match (number, width) {
+            (1..=15, _) => 0,
+            (16, Some(width)) => short_row(&self.targets, *width),
+            (17, _) => first_not_finite(&self.targets),
+            _ => self.targets.len(),
+        }
+    }
+}
+
+/// Where the short row of a batch begins.
+fn short_row(batch: &Lent<f32>, width: usize) -> usize {
+    batch.len() - batch.len() % width
 }
 
 /// The bits of all lent cells.
@@ -257,6 +334,15 @@ impl Column for Kind {
             ],
         };
         line <= 7 || line == DEFAULT_4 || beyond_configuration.contains(&line)
+    }
+
+    /// A check is lent none, and accepted initialisation writes all.
+    fn leaves_floats(self, line: Line) -> bool {
+        match self {
+            Kind::Check => false,
+            Kind::Initialise => line != 0 && self.gives(line),
+            _ => self.gives(line),
+        }
     }
 }
 
@@ -290,17 +376,7 @@ impl Display for Call {
             formatter,
             "    intervals {intervals:x} lo {lo:x} hi {hi:x} seed {seed:x} steps {steps:x} rate {rate:x}"
         )?;
-        let buffers = [
-            ("model", &self.model),
-            ("inputs", &self.inputs),
-            ("targets", &self.targets),
-            ("first", &self.first),
-            ("second", &self.second),
-            ("gradients", &self.gradients),
-            ("work", &self.work),
-            ("outputs", &self.outputs),
-        ];
-        for (name, buffer) in buffers {
+        for (name, buffer) in self.floats() {
             writeln!(formatter, "    {name} {}", cells(buffer))?;
         }
         writeln!(formatter, "    map {}", cells(&self.map))

@@ -2,9 +2,9 @@
 //! arguments, the answer and all that the call leaves in what it was lent.
 
 use crate::calls::{bits, Call, Kind};
+use crate::compared::Compared;
 use crate::image_calls::{self, ImageCall};
 use crate::lent::{Cell, Lent};
-use crate::outcomes::Compared;
 use crate::ported::Grid;
 
 /// A call that the stored lists have a form for; more than one line where more than one proved call takes it.

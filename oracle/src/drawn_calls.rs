@@ -6,13 +6,15 @@ mod visits;
 
 use crate::bits::beside;
 use crate::calls::{Call, Kind, FIRST_KINDS};
+use crate::compared::Compared;
 use crate::draws::Draws;
 use crate::grids::{accepted_families, drawn_grid};
 use crate::inputs::{drawn_input, exponential_inputs};
 use crate::lent::{Cell, Lent};
+use crate::nans;
 use crate::ported::Grid;
-use crate::program::{Compare, Round};
 use crate::reading::{self, Configuration, STUCK_INTERVALS};
+use crate::rounds::{Compare, Round};
 
 const MOST_PARAMETERS: usize = 250_000;
 /// Larger models are left to the chosen calls, as each parameter costs time.
@@ -21,6 +23,8 @@ const NOT_FINITE: [f32; 3] = [f32::NAN, f32::INFINITY, f32::NEG_INFINITY];
 
 pub struct Maker {
     draws: Draws,
+    /// Apart from the other draws, so that a call is the same but for its NaN.
+    nans: Draws,
     chosen_grids: Vec<Grid>,
     /// Where E and SiLU turn, among others.
     chosen_inputs: Vec<f32>,
@@ -31,6 +35,7 @@ impl Maker {
         let families = accepted_families();
         Maker {
             draws: Draws::new(0),
+            nans: Draws::new(0),
             chosen_grids: families.into_iter().flat_map(|f| f.grids).collect(),
             chosen_inputs: exponential_inputs(),
         }
@@ -48,6 +53,18 @@ impl Maker {
         let Round { seed, number } = round;
         let seed = Draws::new(seed).word() ^ Draws::new(4 * number + part).word();
         self.draws = Draws::new(seed);
+        self.nans = Draws::new(!seed);
+    }
+
+    /// Half of all calls find NaN in what they leave alone.
+    fn with_nans<C: Compared>(&mut self, call: C) -> C {
+        let draws = &mut self.nans;
+        if draws.whole(1, 2) == 1 {
+            let answer = call.expected();
+            call.with_nans(answer, &mut |_| nans::drawn(draws))
+        } else {
+            call
+        }
     }
 
     /// The call of this kind that belongs to the round.
@@ -71,7 +88,7 @@ impl Maker {
             Kind::TrainStep | Kind::Train => self.train(&mut call, &sound),
             Kind::Visits => self.visits(&mut call, &sound),
         }
-        call
+        self.with_nans(call)
     }
 
     /// Whether a thing that happens once in so many times happens now.

@@ -1,4 +1,4 @@
-//! E, the exponential of document 01, in whole numbers; and `expf`, by which `f32::exp` reaches it.
+//! E, the exponential (R7.1 to R7.4), in whole numbers; and `expf`, by which `f32::exp` reaches it.
 
 use crate::whole::Whole;
 
@@ -8,8 +8,8 @@ thread_local! {
     static TABLE: [u64; 256] = table();
 }
 
-/// "+infinity for x at or above 89, +0.0 at or below -104, and bits 7FC00000 for NaN. Otherwise
-/// all is whole numbers, divisions rounding down." A shift to the right divides so.
+/// R7.1: +infinity for x >= 89, +0.0 for x <= -104, a NaN for a NaN. R7.2: otherwise all is whole numbers, divisions
+/// rounding down. A shift to the right divides so.
 pub fn exponential(x: f32) -> f32 {
     if x.is_nan() {
         return f32::from_bits(NAN_BITS);
@@ -36,7 +36,7 @@ pub extern "C" fn expf(x: f32) -> f32 {
     exponential(x)
 }
 
-/// "X is x·2^26 with its fraction dropped toward zero", for x of size below 128.
+/// R7.2: X is x · 2^26, its fraction dropped toward zero, for x of size below 128.
 fn scaled(x: f32) -> i64 {
     let exponent = (x.to_bits() >> 23) & 0xff;
     let fraction = i64::from(x.to_bits() & 0x7f_ffff);
@@ -54,8 +54,8 @@ fn scaled(x: f32) -> i64 {
     }
 }
 
-/// "The f32 nearest product·2^scale, ties to even, subnormals kept, +infinity from 2^128 - 2^103
-/// on", for a product of at least 2^24.
+/// R7.4: the f32 nearest to product · 2^scale, ties to even, subnormals kept, +infinity from 2^128 - 2^103 on, for a
+/// product of at least 2^24.
 fn nearest(product: u64, scale: i32) -> f32 {
     let length = 64 - product.leading_zeros() as i32;
     // The step between neighbouring f32 numbers here is 2^step.
@@ -74,7 +74,7 @@ fn nearest(product: u64, scale: i32) -> f32 {
     f32::from_bits(bits.min(0x7f80_0000) as u32)
 }
 
-/// "T[i] is the largest whole number whose 256th power is at most 2^(7680 + i)."
+/// R7.3: T[i] is the largest whole number t with t^256 <= 2^(7680 + i).
 pub fn table() -> [u64; 256] {
     let mut entries = [0; 256];
     for (i, entry) in entries.iter_mut().enumerate() {

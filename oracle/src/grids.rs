@@ -91,7 +91,7 @@ fn huge() -> Family {
         (7, (-1.7e38, 1.7e38)),
         (32, (-1.7e38, 1.7e38)),
         (16, (-1.697e38, 1.697e38)),
-        // Knot g + 3 is infinite too, so that the last slope is NaN even at inputs outside.
+        // Knot g + 3 is infinite too, so that the Rust's last slope is NaN even outside, where R6.3 has 0.
         (25, (-1.701_411_7e38, 1.701_411_7e38)),
         (1, (-4.861e37, 4.861e37)),
         (5, (-1e38, 1e38)),

@@ -1,8 +1,9 @@
 //! One call on a model image with everything that is lent to it: before, after, and what two ends of it differ in.
 
 use crate::calls::{bits, cells, compare};
+use crate::compared::{Column, Compared, Line, DEFAULT_4};
 use crate::lent::Lent;
-use crate::outcomes::{Column, Compared, Line, DEFAULT_4};
+use crate::nans::{fill, first_not_finite, NanAt};
 use crate::ported::Grid;
 use crate::reading::images::{self, Description, Word};
 use crate::reading::{self, Configuration, Refusal, STUCK_INTERVALS};
@@ -73,6 +74,15 @@ impl ImageCall {
         images::unpack(self.image.contents(), widths, model)
     }
 
+    /// From which place on the parameters do not decide the writer's answer, which has this number.
+    fn unread_model(&self, number: u32) -> usize {
+        match number {
+            1..=10 => 0,
+            11 => first_not_finite(&self.model),
+            _ => self.model.len(),
+        }
+    }
+
     /// The intervals that the configuration is checked with.
     fn given_intervals(&self) -> usize {
         match self.kind {
@@ -117,9 +127,9 @@ impl Compared for ImageCall {
         for (name, proved, read) in numbers {
             compare(&mut lines, name, proved, read);
         }
-        compare(&mut lines, "lo", &self.ends[0], &reading.ends[0]);
-        compare(&mut lines, "hi", &self.ends[1], &reading.ends[1]);
-        compare(&mut lines, "model", &self.model, &reading.model);
+        for ((name, proved), (_, read)) in self.floats().into_iter().zip(reading.floats()) {
+            compare(&mut lines, name, proved, read);
+        }
         compare(&mut lines, "image", &self.image, &reading.image);
         lines
     }
@@ -149,6 +159,23 @@ impl Compared for ImageCall {
             Kind::Unpack => [bits(&self.widths), bits(&self.model)].concat(),
         }
     }
+
+    fn floats(&self) -> Vec<(&'static str, &Lent<f32>)> {
+        let [lo, hi] = &self.ends;
+        vec![("lo", lo), ("hi", hi), ("model", &self.model)]
+    }
+
+    fn with_nans(mut self, (number, _): (u32, usize), nan_at: NanAt) -> Self {
+        match self.kind {
+            Kind::Write => {
+                let unread = self.unread_model(number);
+                fill(&mut self.model, unread, nan_at);
+            }
+            Kind::Read => self.ends.iter_mut().for_each(|end| fill(end, 0, nan_at)),
+            Kind::Unpack => fill(&mut self.model, 0, nan_at),
+        }
+        self
+    }
 }
 
 impl Column for Kind {
@@ -162,6 +189,11 @@ impl Column for Kind {
         let by_configuration =
             (line <= 7 || line == DEFAULT_4) && (line != 2 || self == Kind::Write);
         by_configuration || beyond_configuration.contains(&line)
+    }
+
+    /// Accepted, the reader and unpacking write all, and the writer's parameters are finite.
+    fn leaves_floats(self, line: Line) -> bool {
+        line != 0 && self.gives(line)
     }
 }
 

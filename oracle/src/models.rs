@@ -71,7 +71,7 @@ pub fn parameters(network: &Kan) -> Vec<f32> {
 }
 
 impl Layer {
-    /// "Edges output by output, input by input; per edge the base weight, spline weight, coefficients."
+    /// R2.6: edges output by output, input by input; of an edge the base weight, the spline weight, the coefficients.
     fn of(flat: &[f32], inputs: usize, per_edge: usize) -> Self {
         let outputs: Vec<Vec<&[f32]>> = flat
             .chunks(inputs * per_edge)

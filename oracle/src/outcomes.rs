@@ -1,54 +1,11 @@
 //! How often each call gave each number, and the differences between the archive and the reading.
 
-use crate::settled_calls::Settled;
-use std::fmt::Display;
-
-/// A line of the table: a number of refusal, 0 for accepted calls, or one of those below.
-pub type Line = usize;
-
-/// The refusals of document 01, and accepted calls.
-const NUMBERS: usize = 28;
-/// 4 with the domain [-1, 1].
-pub const DEFAULT_4: Line = NUMBERS;
-/// 20 and 23 after at least one step of the same call.
-pub const LATER_20: Line = NUMBERS + 1;
-pub const LATER_23: Line = NUMBERS + 2;
-const LINES: usize = NUMBERS + 3;
+use crate::compared::{line_name, lines_in_order, Column, Compared, Line, LINES};
+use crate::kept::Kept;
+use crate::settled::Settled;
 
 /// Differences that are printed.
 const SHOWN: usize = 10;
-
-/// A kind of call: a column of the table.
-pub trait Column: Copy + PartialEq + Display + Sync + 'static {
-    /// Whether a call of this kind can end on this line.
-    fn gives(self, line: Line) -> bool;
-}
-
-/// A call with everything that is lent to it, before it is made or after.
-pub trait Compared: Clone + Display {
-    type Kind: Column;
-
-    fn kind(&self) -> Self::Kind;
-
-    /// The call as document 01 has it.
-    fn read(self) -> Self;
-
-    /// Everything in which two ends of the same call differ, as lines.
-    fn differences(&self, reading: &Self) -> Vec<String>;
-
-    /// The number that the call gave, and what it carried.
-    fn answer(&self) -> (u32, usize);
-
-    fn line(&self) -> Line;
-
-    /// The bits of what a call of its kind writes, for the settled answers.
-    fn written(&self) -> Vec<u64>;
-
-    /// The training steps that were made.
-    fn steps(&self) -> u64 {
-        0
-    }
-}
 
 pub struct Outcomes<C: Compared> {
     kinds: &'static [C::Kind],
@@ -56,6 +13,7 @@ pub struct Outcomes<C: Compared> {
     made: fn(C) -> C,
     /// For each kind, how often each line was met.
     counts: Vec<[u64; LINES]>,
+    kept: Kept,
     steps: u64,
     different: u64,
     shown: Vec<String>,
@@ -67,6 +25,7 @@ impl<C: Compared> Outcomes<C> {
             kinds,
             made,
             counts: vec![[0; LINES]; kinds.len()],
+            kept: Kept::new(kinds.len()),
             steps: 0,
             different: 0,
             shown: Vec::new(),
@@ -79,9 +38,11 @@ impl<C: Compared> Outcomes<C> {
         let proved = (self.made)(call.clone());
         let kind = call.kind();
         let column = self.kinds.iter().position(|&known| known == kind);
-        self.counts[column.expect("a kind of this table")][read.line()] += 1;
+        let column = column.expect("a kind of this table");
+        self.counts[column][read.line()] += 1;
         self.steps += read.steps();
-        let differences = proved.differences(&read);
+        let mut differences = proved.differences(&read);
+        differences.extend(self.kept.count(column, read.line(), call, &proved));
         if !differences.is_empty() {
             self.differ(call, at, differences);
         }
@@ -111,6 +72,7 @@ impl<C: Compared> Outcomes<C> {
                 *count += more;
             }
         }
+        self.kept.absorb(other.kept);
         self.steps += other.steps;
         self.different += other.different;
         self.shown.extend(other.shown);
@@ -119,6 +81,10 @@ impl<C: Compared> Outcomes<C> {
 
     pub fn calls(&self) -> u64 {
         self.counts.iter().flatten().sum()
+    }
+
+    pub fn kept(&self) -> &Kept {
+        &self.kept
     }
 
     pub fn steps(&self) -> u64 {
@@ -138,8 +104,9 @@ impl<C: Compared> Outcomes<C> {
                 0 if !kind.gives(line) => format!("{:>11}", "-"),
                 count => format!("{count:>11}"),
             });
-            println!("{:<12}{}", name(line), counts.collect::<String>());
+            println!("{:<12}{}", line_name(line), counts.collect::<String>());
         }
+        self.kept.print();
         self.print_differences();
     }
 
@@ -155,7 +122,7 @@ impl<C: Compared> Outcomes<C> {
         for (kind, counts) in self.kinds.iter().zip(&self.counts) {
             for line in self.lines() {
                 if kind.gives(line) && counts[line] == 0 {
-                    println!("no {kind} gave {}", name(line));
+                    println!("no {kind} gave {}", line_name(line));
                     missing = true;
                 }
             }
@@ -165,26 +132,9 @@ impl<C: Compared> Outcomes<C> {
 
     /// All lines that some call can give or gave.
     fn lines(&self) -> impl Iterator<Item = Line> + '_ {
-        in_order().filter(|&line| {
+        lines_in_order().filter(|&line| {
             let mut columns = self.kinds.iter().zip(&self.counts);
             columns.any(|(kind, counts)| kind.gives(line) || counts[line] > 0)
         })
-    }
-}
-
-/// The particular lines beside their numbers: 4 with the domain [-1, 1] before the other 4.
-fn in_order() -> impl Iterator<Item = Line> {
-    let to_20 = (0..4).chain([DEFAULT_4]).chain(4..=20).chain([LATER_20]);
-    to_20.chain(21..=23).chain([LATER_23]).chain(24..NUMBERS)
-}
-
-fn name(line: Line) -> String {
-    match line {
-        0 => "accepted".to_owned(),
-        4 => "4, given".to_owned(),
-        DEFAULT_4 => "4, [-1, 1]".to_owned(),
-        LATER_20 => "20, later".to_owned(),
-        LATER_23 => "23, later".to_owned(),
-        number => number.to_string(),
     }
 }

@@ -39,7 +39,24 @@ impl Grid {
         spline::exterior_uniform_knots(self.intervals, self.domain())
     }
 
+    /// R6.3: below the first knot, at or above the last, and at an input not finite.
+    fn is_outside(&self, x: f32) -> bool {
+        let knots = self.knots();
+        !x.is_finite() || x < knots[0] || x >= knots[knots.len() - 1]
+    }
+
+    /// The Rust's basis by R6.3: outside the knots all +0.0, slopes too. The Rust works slopes out there,
+    /// and divides by an infinity less an infinity where knots are infinite (docs/DIFFERENCES.md).
     pub fn basis(&self, x: f32) -> Basis {
+        let mut basis = self.basis_of_rust(x);
+        if self.is_outside(x) {
+            basis.slopes.fill(0.0);
+        }
+        basis
+    }
+
+    /// All values and slopes as the Rust has them.
+    pub fn basis_of_rust(&self, x: f32) -> Basis {
         let edge = SplineActivation::new(self.intervals, self.domain(), 0.0, 1.0, Vec::new());
         let basis = edge.basis(x);
         Basis {

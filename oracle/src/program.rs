@@ -1,10 +1,13 @@
 //! One run of a program that compares calls: the chosen ones, then drawn ones, counted and printed.
 
+use crate::compared::Compared;
 use crate::drawn_calls::Maker;
 use crate::models::demand_exact;
-use crate::outcomes::{Compared, Outcomes};
+use crate::nans::{chosen, demand_kept};
+use crate::outcomes::Outcomes;
 use crate::ported::demand_e;
-use crate::settled_calls::Chosen;
+use crate::rounds::{Compare, Round};
+use crate::settled::Chosen;
 use std::process::ExitCode;
 use std::thread;
 use std::time::Instant;
@@ -12,9 +15,6 @@ use std::time::Instant;
 const THREADS: u64 = 2;
 /// From so many rounds on, every number that a call can give must have come.
 const ENOUGH_ROUNDS: u64 = 2000;
-
-/// Has a call compared; the answer is the reading's.
-pub type Compare<'a, C> = &'a mut dyn FnMut(&C) -> C;
 
 /// What tells one program from another.
 pub struct Program<C: Compared> {
@@ -25,13 +25,6 @@ pub struct Program<C: Compared> {
     pub round: fn(&mut Maker, Round, Compare<C>),
     /// The call as the archive makes it.
     pub made: fn(C) -> C,
-}
-
-/// A round of drawn calls, which belongs to the seed whatever was drawn before.
-#[derive(Clone, Copy)]
-pub struct Round {
-    pub seed: u64,
-    pub number: u64,
 }
 
 struct Arguments {
@@ -74,15 +67,14 @@ impl<C: Compared + 'static> Program<C> {
         };
         demand_e();
         demand_exact();
-        let outcomes = match arguments.round {
+        demand_kept();
+        let (outcomes, missing) = match arguments.round {
             Some(number) => self.one_round(Round {
                 seed: arguments.seed,
                 number,
             }),
             None => self.all_rounds(&arguments),
         };
-        let enough = arguments.round.is_none() && arguments.rounds >= ENOUGH_ROUNDS;
-        let missing = enough && outcomes.print_missing();
         if outcomes.different() > 0 || missing {
             ExitCode::FAILURE
         } else {
@@ -90,14 +82,12 @@ impl<C: Compared + 'static> Program<C> {
         }
     }
 
-    /// The chosen calls, then the drawn ones.
-    fn all_rounds(&self, arguments: &Arguments) -> Outcomes<C> {
+    /// The chosen calls, then the drawn ones; and whether something did not come that should have.
+    fn all_rounds(&self, arguments: &Arguments) -> (Outcomes<C>, bool) {
         let start = Instant::now();
-        let mut outcomes = Outcomes::new(self.kinds, self.made);
-        for (place, settled) in (self.chosen)(arguments.large).enumerate() {
-            outcomes.compare_settled(&settled, || format!("chosen call {place}"));
-        }
-        let chosen = outcomes.calls();
+        let mut outcomes = self.chosen_calls(arguments.large);
+        let (chosen, chosen_nans) = (outcomes.calls(), outcomes.kept().all());
+        let no_nan = outcomes.kept().print_missing(self.kinds);
         let chosen_time = start.elapsed().as_secs_f64();
         let start = Instant::now();
         for part in self.drawn_in_threads(arguments) {
@@ -109,10 +99,30 @@ impl<C: Compared + 'static> Program<C> {
         println!(
             "{chosen} chosen calls in {chosen_time:.1} s, {drawn} drawn calls in {drawn_time:.1} s"
         );
+        let drawn_nans = outcomes.kept().all() - chosen_nans;
+        println!("{chosen_nans} NaN left alone by chosen calls, {drawn_nans} by drawn calls");
         if outcomes.steps() > 0 {
             println!("{} training steps", outcomes.steps());
         }
         println!("{} differences", outcomes.different());
+        let no_answer = arguments.rounds >= ENOUGH_ROUNDS && outcomes.print_missing();
+        (outcomes, no_nan || no_answer)
+    }
+
+    /// Each chosen call as it is, and again with NaN in what it leaves alone, so often that every cell has held one of each
+    /// kind: quiet and signalling, of both signs. Large ones are made with one quiet and one signalling at most.
+    fn chosen_calls(&self, large: bool) -> Outcomes<C> {
+        let mut outcomes = Outcomes::new(self.kinds, self.made);
+        for (place, settled) in (self.chosen)(large).enumerate() {
+            outcomes.compare_settled(&settled, || format!("chosen call {place}"));
+            let times = if settled.is_large() { 2 } else { 4 };
+            for passed in 0..times {
+                if let Some(settled) = settled.with_nans(&mut chosen(passed)) {
+                    let at = || format!("chosen call {place} with NaN from {passed} on");
+                    outcomes.compare_settled(&settled, at);
+                }
+            }
+        }
         outcomes
     }
 
@@ -144,8 +154,8 @@ impl<C: Compared + 'static> Program<C> {
         outcomes
     }
 
-    /// The calls of one round, with all arguments.
-    fn one_round(&self, round: Round) -> Outcomes<C> {
+    /// The calls of one round, with all arguments; nothing is missing among them.
+    fn one_round(&self, round: Round) -> (Outcomes<C>, bool) {
         let mut outcomes = Outcomes::new(self.kinds, self.made);
         (self.round)(&mut Maker::new(), round, &mut |call| {
             print!("{call}");
@@ -155,6 +165,6 @@ impl<C: Compared + 'static> Program<C> {
             read
         });
         outcomes.print_differences();
-        outcomes
+        (outcomes, false)
     }
 }

@@ -1,6 +1,6 @@
-//! Document 01 read literally over flat buffers: the number of refusal, what it carries, and the final contents of
-//! all lent memory. What the ported Rust knows comes from it: answers, parameters and its own refusals. The rules of
-//! lengths and of memory, which it does not know, stand here in the document's words.
+//! The rules (docs/RULES.md) read literally over flat buffers: the number of refusal, what it carries, and the final
+//! contents of all lent memory. What the ported Rust knows comes from it: answers, parameters and its own refusals. The
+//! rules of lengths and of memory, which it does not know, stand here as the rules have them.
 
 pub mod images;
 pub mod training;
@@ -93,7 +93,7 @@ impl Configuration {
         }
     }
 
-    /// "That is `new` followed by `with_domain`."
+    /// The Rust's `new` followed by `with_domain`: R3.4, the configuration.
     fn accepted(&self) -> Result<KanConfig, Refusal> {
         let Grid { intervals, lo, hi } = self.grid;
         KanConfig::new(self.widths.clone(), intervals)
@@ -101,19 +101,19 @@ impl Configuration {
             .map_err(refusal)
     }
 
-    /// "P is the sum over layers of in × out × (g + 5)"; for an accepted configuration.
+    /// R2.4: P, the sum over the layers of in × out × (g + 5); for an accepted configuration.
     pub fn parameters(&self) -> usize {
         let layers = self.widths.windows(2);
         let sizes = layers.map(|ends| ends[0] * ends[1] * (self.grid.intervals + 5));
         sizes.sum()
     }
 
-    /// "W, the largest width."
+    /// R2.5: W, the largest width.
     pub fn widest(&self) -> usize {
         self.widths.iter().copied().max().unwrap_or(0)
     }
 
-    /// "N the sum of widths"; for an accepted configuration.
+    /// R2.5: N, the sum of the widths; for an accepted configuration.
     pub fn nodes(&self) -> usize {
         self.widths.iter().sum()
     }
@@ -127,7 +127,7 @@ impl Configuration {
     }
 }
 
-/// "A flat batch stands for rows of the configured width; if the length is no multiple, the last row is short."
+/// R5.1, R5.2: a flat batch stands for rows of a width; if the length is no multiple, the last row is short.
 fn rows(flat: &[f32], width: usize) -> Vec<Vec<f32>> {
     flat.chunks(width).map(<[f32]>::to_vec).collect()
 }
@@ -137,7 +137,7 @@ pub fn check(config: &Configuration) -> Result<usize, Refusal> {
     config.accepted().map(|_| config.parameters())
 }
 
-/// "Initialisation adds only 8."
+/// R3.4: initialisation adds only 8 to the configuration.
 pub fn initialise(config: &Configuration, seed: u64, model: &mut [f32]) -> Result<(), Refusal> {
     let accepted = config.accepted()?;
     if model.len() != config.parameters() {
@@ -149,7 +149,7 @@ pub fn initialise(config: &Configuration, seed: u64, model: &mut [f32]) -> Resul
     Ok(())
 }
 
-/// "Calls on a model go on: 8, 9 ..": two work slices of at least W.
+/// R3.4: the configuration, 8, 9: two work slices of at least W (R2.7).
 fn admit(config: &Configuration, model: &[f32], work: &Work) -> Result<(), Refusal> {
     config.accepted()?;
     if model.len() != config.parameters() {
@@ -162,7 +162,7 @@ fn admit(config: &Configuration, model: &[f32], work: &Work) -> Result<(), Refus
     Ok(())
 }
 
-/// "Past check 9, and after success too, the needed first part of each work slice is left all +0.0."
+/// R3.6: past check 9, and after success too, the needed part of each work slice is all +0.0.
 fn sweep(config: &Configuration, work: Work) {
     let widest = config.widest();
     work.first[..widest].fill(0.0);
@@ -187,8 +187,8 @@ pub fn predict(
     answer
 }
 
-/// ".. 10, 11, then the batch": "each row's 14, 15, 20 before looking at the next; the refusal carries the row, counted
-/// from 0 .. Prediction rows before the refused row stay written."
+/// R3.4: 10, 11, then each row's 14, 15, 20 before the next is looked at (R5.5); the refusal carries the row (R3.2),
+/// and rows before it stay written (R3.6).
 fn predict_rows(
     config: &Configuration,
     model: &[f32],
@@ -234,7 +234,7 @@ pub fn loss(
     answer
 }
 
-/// 11, then "12, 13, inputs row by row (14 before 15), targets row by row (16 before 17), 18", then the rows.
+/// R3.4: 11, then the batch's 12 to 18 (R5.4), then the rows.
 fn loss_of(config: &Configuration, model: &[f32], batch: Batch) -> Result<f32, Refusal> {
     if !is_finite(model) {
         return refuse(11);

@@ -6,38 +6,42 @@ pub mod visits;
 
 use crate::calls::{bits, Call, Kind};
 use crate::lent::Lent;
-use crate::outcomes::Compared;
 use crate::ported::Grid;
 use crate::reading::{self, Configuration, MOST_TARGETS};
+use crate::settled::{Chosen, Settled};
 
 /// What work and outputs hold before a call.
 const OLD_WORK: f32 = 9.0;
 const OLD_OUTPUT: f32 = 5.0;
 const NAN: f32 = f32::NAN;
 
-pub struct Settled<C> {
-    /// What the stored lists say of this call and of those that follow without such a line.
-    pub heading: &'static str,
-    pub call: C,
-    pub number: u32,
-    pub carried: usize,
-    /// The bits of what is written, where the answer is settled by numbers.
-    pub written: Option<Vec<u64>>,
-}
+/// Widths, intervals and domain, and what they are refused with: the number, and what it carries.
+type Faulty = (&'static [usize], usize, (f32, f32), u32, usize);
 
-impl<C: Compared> Settled<C> {
-    /// What the reading has for this call beside what is settled; nothing where they agree.
-    pub fn fault(&self, read: &C) -> Option<String> {
-        let (own, written) = ((self.number, self.carried), read.written());
-        let agrees = own == read.answer() && self.written.as_ref().map_or(true, |w| *w == written);
-        (!agrees).then(|| {
-            let answer = read.answer();
-            format!(
-                "settled {own:?} {:x?}, reading {answer:?} {written:x?}",
-                self.written
-            )
+/// Every refusal of the configuration.
+const FAULTY: [Faulty; 10] = [
+    (&[], 1, (-1.0, 1.0), 1, 0),
+    (&[1], 1, (-1.0, 1.0), 1, 0),
+    (&[1, 0], 1, (-1.0, 1.0), 1, 0),
+    (&[1 << 32, 1 << 32], 0, (-1.0, 1.0), 2, 0),
+    (&[1, 1], 0, (1.0, 1.0), 3, 0),
+    (&[1, 1], 67_108_862, (-1.0, 1.0), 4, 0),
+    (&[1 << 31, 1 << 31], 1, (1.0, 1.0), 5, 0),
+    (&[1 << 31, 1 << 30, 1 << 31, 1 << 31], 1, (-1.0, 1.0), 6, 0),
+    (&[1, 1], 249_996, (1.0, 1.0), 7, 250_001),
+    (&[1, 1], 2, (NAN, 1.0), 4, 0),
+];
+
+/// The call with each of these configurations.
+fn with_faults(call: &Call) -> impl Iterator<Item = Settled<Call>> + '_ {
+    FAULTY
+        .iter()
+        .map(|&(widths, intervals, (lo, hi), number, carried)| {
+            let mut call = call.clone();
+            call.widths = Lent::new(widths);
+            call.grid = Grid::new(intervals, lo, hi);
+            settled(call, number, carried)
         })
-    }
 }
 
 /// A network and its parameters.
@@ -177,9 +181,6 @@ fn headed<C>(heading: &'static str, mut calls: Vec<Settled<C>>) -> Vec<Settled<C
     calls
 }
 
-/// The chosen calls of a program.
-pub type Chosen<C> = Box<dyn Iterator<Item = Settled<C>>>;
-
 /// Some of the chosen calls. They are made group by group, as some take much memory.
 type Group<C> = fn() -> Vec<Settled<C>>;
 
@@ -201,6 +202,7 @@ pub fn settled_calls(large: bool) -> Chosen<Call> {
         initialisations,
         predictions,
         losses,
+        faulty_configurations,
         largest_networks,
         many_targets,
     ];
@@ -345,6 +347,8 @@ fn losses() -> Vec<Settled<Call>> {
     let batch = [0.25, 0.5, -0.5, 1.0, 0.0, 0.75];
     let mut short_work = inf.loss(&[], &[]);
     short_work.second = Lent::null();
+    let mut short_model = short_work.clone();
+    short_model.model = Lent::new(&inf.parameters[..6]);
     vec![
         writes(zero.loss(&[0.0], &[1.0]), 0, 0, &[0x3f80_0000]),
         settled(zero.loss(&[], &[]), 13, 0),
@@ -353,6 +357,7 @@ fn losses() -> Vec<Settled<Call>> {
         settled(zero.loss(&[NAN], &[NAN]), 15, 0),
         settled(inf.loss(&[NAN], &[]), 11, 0),
         settled(short_work, 9, 0),
+        settled(short_model, 8, 0),
         settled(two.loss(&[0.0, 0.5, 0.5], &[NAN, 1.0]), 14, 0),
         settled(two.loss(&[0.0, 0.5, 0.5], &[1.0]), 12, 0),
         settled(wide.loss(&[0.5, 0.5], &[NAN, 1.0, 1.0]), 17, 0),
@@ -364,6 +369,17 @@ fn losses() -> Vec<Settled<Call>> {
         settled(less_steep.loss(&[100.0, 100.0, 3e38], &[0.0; 3]), 22, 0),
         writes(two.loss(&batch, &[1.0, 2.0, -3.0]), 0, 0, &[0x4094_b3bb]),
     ]
+}
+
+/// Every refusal of the configuration by every call that is lent floats.
+fn faulty_configurations() -> Vec<Settled<Call>> {
+    let model = spline();
+    let calls = [
+        initialise(&[1, 1], 2, 0, 7),
+        model.predict(&[0.0, 0.5], 2),
+        model.loss(&[0.0, 0.5], &[1.0, 2.0]),
+    ];
+    calls.iter().flat_map(with_faults).collect()
 }
 
 fn largest_networks() -> Vec<Settled<Call>> {

@@ -10,6 +10,10 @@ pub struct Tally {
     nans: u64,
     different: u64,
     shown: Vec<String>,
+    /// Where docs/DIFFERENCES.md says that the Rust parts from the rules, how often it did, and the first time.
+    line: &'static str,
+    parted: u64,
+    first_parted: Option<String>,
 }
 
 impl Tally {
@@ -20,22 +24,55 @@ impl Tally {
             nans: 0,
             different: 0,
             shown: Vec::new(),
+            line: "",
+            parted: 0,
+            first_parted: None,
         }
     }
 
-    /// Counts one answer of the proved code beside the ported Rust's.
-    pub fn compare(&mut self, proved: f32, rust: f32, at: impl FnOnce() -> String) {
+    /// A tally of answers in which the Rust may part from the rules, by this line of docs/DIFFERENCES.md.
+    pub fn with_line(name: &'static str, line: &'static str) -> Self {
+        Tally {
+            line,
+            ..Tally::new(name)
+        }
+    }
+
+    /// Counts one answer of the proved code beside the one that is expected, mostly the ported Rust's.
+    pub fn compare(&mut self, proved: f32, expected: f32, at: impl FnOnce() -> String) {
         self.compared += 1;
-        self.nans += u64::from(rust.is_nan());
-        if alike(proved, rust) {
+        self.nans += u64::from(expected.is_nan());
+        if alike(proved, expected) {
             return;
         }
         self.different += 1;
         if self.shown.len() < SHOWN {
-            let (proved, rust) = (hex(proved), hex(rust));
+            let (proved, expected) = (hex(proved), hex(expected));
             self.shown
-                .push(format!("{}: proved {proved}, Rust {rust}", at()));
+                .push(format!("{}: proved {proved}, expected {expected}", at()));
         }
+    }
+
+    /// The same where the Rust may part from the rules, which the proved code follows.
+    pub fn compare_parted(
+        &mut self,
+        proved: f32,
+        document: f32,
+        rust: f32,
+        at: impl Fn() -> String,
+    ) {
+        self.compare(proved, document, &at);
+        if !alike(document, rust) {
+            self.parted += 1;
+            let (document, rust) = (hex(document), hex(rust));
+            self.first_parted
+                .get_or_insert_with(|| format!("{}: Rust {rust}, rules {document}", at()));
+        }
+    }
+
+    /// How often the Rust parted from the rules.
+    pub fn parted(&self) -> u64 {
+        self.parted
     }
 
     /// Takes over what another tally of the same name has counted.
@@ -45,6 +82,8 @@ impl Tally {
         self.different += other.different;
         self.shown.extend(other.shown);
         self.shown.truncate(SHOWN);
+        self.parted += other.parted;
+        self.first_parted = self.first_parted.take().or(other.first_parted);
     }
 
     pub fn print(&self) {
@@ -54,6 +93,10 @@ impl Tally {
         );
         for line in &self.shown {
             println!("    {line}");
+        }
+        if let Some(first) = &self.first_parted {
+            let Tally { parted, line, .. } = self;
+            println!("    {parted} known differences, docs/DIFFERENCES.md: {line}; first {first}");
         }
     }
 

@@ -1,4 +1,4 @@
-//! Compares the estimator's calls through C linkage (`libestimator.a`) with document 01's reading over the ported Rust:
+//! Compares the estimator's calls through C linkage (`libestimator.a`) with the rules' reading over the ported Rust:
 //! the number of refusal, what it carries, and all lent memory, guards on both sides of it included.
 
 use kan_oracle::calls::FIRST_KINDS;

@@ -1,4 +1,4 @@
-//! Compares the estimator's model images through C linkage (`libestimator.a`) with document 01's reading: every byte
+//! Compares the estimator's model images through C linkage (`libestimator.a`) with the rules' reading: every byte
 //! written, what is read of good and of damaged images, the number of refusal, what it carries, and all lent memory.
 
 use kan_oracle::drawn_calls::Maker;

@@ -56,6 +56,8 @@ const PATTERNS: u64 = 1 << 32;
 const LARGEST_ROOT: usize = 41_666;
 const MOST_INTERVALS: usize = 250_000;
 const INPUTS_PER_GRID: usize = 8;
+/// The line of docs/DIFFERENCES.md.
+const SLOPE_OUTSIDE: &str = "slope outside the knots";
 
 fn main() -> ExitCode {
     let [every, offset, grids] = numbers([("--every", 1), ("--offset", 0), ("--basis", 20_000)]);
@@ -126,16 +128,21 @@ struct Basis {
 impl Basis {
     fn compared(grids: u64) -> Vec<Tally> {
         let mut basis = Basis {
-            accepted: [Tally::new("basis value"), Tally::new("basis slope")],
+            accepted: [
+                Tally::new("basis value"),
+                Tally::with_line("basis slope", SLOPE_OUTSIDE),
+            ],
             refused: [
                 Tally::new("value, grid refused"),
-                Tally::new("slope, grid refused"),
+                Tally::with_line("slope, grid refused", SLOPE_OUTSIDE),
             ],
             outside: Tally::new("basis outside its range"),
         };
         if grids > 0 {
             basis.compare_chosen();
             basis.compare_most_intervals();
+            // One of the chosen grids is there for it: else the line in docs/DIFFERENCES.md is no longer true.
+            assert!(basis.accepted[1].parted() > 0, "no slope outside parts");
         }
         basis.compare_drawn(grids);
         let [value, slope] = basis.accepted;
@@ -186,7 +193,7 @@ impl Basis {
     }
 
     fn compare_indices(&mut self, grid: &Grid, x: f32, indices: impl Iterator<Item = usize>) {
-        let rust = grid.basis(x);
+        let (rust, document) = (grid.basis_of_rust(x), grid.basis(x));
         let [value, slope] = if grid.is_accepted() {
             &mut self.accepted
         } else {
@@ -195,7 +202,8 @@ impl Basis {
         for i in indices {
             let at = || place(grid, i, x);
             value.compare(proved::basis_value(grid, i, x), rust.values[i], at);
-            slope.compare(proved::basis_slope(grid, i, x), rust.slopes[i], at);
+            let proved = proved::basis_slope(grid, i, x);
+            slope.compare_parted(proved, document.slopes[i], rust.slopes[i], at);
         }
     }
 

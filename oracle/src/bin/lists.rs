@@ -8,14 +8,14 @@ use kan_oracle::grids::{accepted_families, refused_family, Family};
 use kan_oracle::inputs::{basis_inputs, exponential_inputs};
 use kan_oracle::models::demand_exact;
 use kan_oracle::ported::{demand_e, root, silu, silu_derivative, Grid};
+use kan_oracle::settled::Chosen;
 use kan_oracle::settled_calls::images::stored_images;
 use kan_oracle::settled_calls::visits::stored_visits;
-use kan_oracle::settled_calls::Chosen;
 use std::process::ExitCode;
 
 const HEADER: &str = "\
 # Answers of the ported Rust (src/network/kan.rs and src/data_structures/spline.rs), built
-# unchanged with document 01's E for `exp`. Made by `oracle/lists.sh`, which runs the oracle's lists.
+# unchanged with E (docs/RULES.md, R7.1 to R7.4) for `exp`. Made by `oracle/lists.sh`, which runs the oracle's lists.
 # A line is a tag and lower-case hexadecimal words without leading zeros. f32 numbers are their
 # bits; NaN is written 7fc00000, and no input is NaN.
 # E x y    the exponential E
@@ -23,11 +23,11 @@ const HEADER: &str = "\
 # D x y    the derivative of SiLU
 # R n y    the root of the whole number n, as initialisation divides by it
 # K g lo hi k0 .. k(g+6)    the knots of a grid of g intervals over [lo, hi]
-# B g lo hi x v0 .. v(g+2) s0 .. s(g+2)    basis values and slopes at x";
+# B g lo hi x v0 .. v(g+2) s0 .. s(g+2)    basis values and slopes at x; outside the knots all 0 (R6.3)";
 
 const IMAGES_HEADER: &str = "\
 # Settled cases of the calls on model images, with all that the calls leave in what they are lent. Made by `oracle/lists.sh`: the
-# answers are document 01's and those of calls.md (D89 to D103), held to a reader and a writer of the oracle's own.
+# answers are those of docs/RULES.md (D89 to D103 name cases of R16.5), held to the oracle's own reader and writer.
 # A line is a tag and lower-case hexadecimal words; f32 numbers are their bits. A configuration is K w0 .. w(K-1) g lo hi. A list
 # is its length and then its numbers; an image is a list of bytes. A call that is accepted has number 0.
 # W configuration model N number carried image    the writer; the N bytes of the image are 55 before
@@ -41,7 +41,7 @@ const IMAGES_HEADER: &str = "\
 
 const VISITS_HEADER: &str = "\
 # Settled cases of the visit map, with all that the call leaves in what it is lent. Made by `oracle/lists.sh`: the answers are
-# document 01's and those of calls.md (D81 to D88), held to a reading over the ported Rust's basis values.
+# those of docs/RULES.md, R12.1 to R12.4 (D81 to D88 name cases), held to a reading over the ported Rust's basis values.
 # A line is a tag and lower-case hexadecimal words; f32 numbers are their bits. A configuration is K w0 .. w(K-1) g lo hi. A list
 # is its length and then its numbers. A call that is accepted has number 0.
 # V configuration model inputs A B N number carried first second map    the A and B numbers of the two work slices are 9.0 before,

@@ -2,6 +2,7 @@
 
 use kan_oracle::bits::{beside, hex};
 use kan_oracle::exponential::{exponential, table};
+use kan_oracle::nans::demand_kept;
 use kan_oracle::ported::{demand_e, root, silu, silu_derivative, Grid};
 use kan_oracle::reading::visits::{is_visited, Rule};
 
@@ -57,6 +58,7 @@ const ANSWERS: [Row; 3] = [
 
 fn main() {
     demand_e();
+    demand_kept();
     for (name, function, answers) in ANSWERS {
         for &(x, y) in answers {
             let answer = function(f32::from_bits(x)).to_bits();
@@ -98,6 +100,25 @@ fn check_basis() {
     check(beside(4.0, -1), "0 0 0 0 1d2aaaab", "0 0 0 0 a9000000");
     check(4.0, "0 0 0 0 0", "0 0 0 0 0");
     check(beside(-4.0, -1), "0 0 0 0 0", "0 0 0 0 0");
+    check_outside();
+}
+
+/// Outside the knots all is zero, where the Rust has a NaN for the last slope; fewer intervals do not show it.
+fn check_outside() {
+    let half = f32::from_bits(0x7eff_ffff);
+    let grids = (1..=25).map(|intervals| Grid::new(intervals, -half, half));
+    let is_zero = |numbers: &[f32]| numbers.iter().all(|x| x.to_bits() == 0);
+    for grid in grids.filter(Grid::is_accepted) {
+        let below = beside(grid.knots()[0], -1);
+        for x in [below, f32::INFINITY, f32::NAN] {
+            let (document, rust) = (grid.basis(x), grid.basis_of_rust(x));
+            assert!(is_zero(&document.values) && is_zero(&document.slopes));
+            let (last, others) = rust.slopes.split_last().expect("there are slopes");
+            assert!(is_zero(&rust.values) && is_zero(others));
+            assert_eq!(last.is_nan(), grid.intervals == 25, "{grid:?} at {x}");
+            assert!(last.is_nan() || last.to_bits() == 0);
+        }
+    }
 }
 
 fn check_grids() {

@@ -3,9 +3,9 @@
 use super::{Maker, MOST_PARAMETERS, NOT_FINITE};
 use crate::image_calls::{ImageCall, Kind};
 use crate::lent::Lent;
-use crate::program::{Compare, Round};
 use crate::reading::images::{self, Word, TRAILER};
 use crate::reading::{Configuration, STUCK_INTERVALS};
+use crate::rounds::{Compare, Round};
 
 /// Damaged copies of each image, each of them read.
 const COPIES: u64 = 24;
@@ -54,16 +54,19 @@ impl Maker {
     pub fn images_round(&mut self, round: Round, compare: Compare<ImageCall>) {
         self.begin(round, 0);
         let sound = self.sound_image_config();
-        compare(&self.write_call(&sound));
+        let write = self.write_call(&sound);
+        compare(&self.with_nans(write));
         let model = self.parameters(&sound);
         let good = images::image(&sound, &model);
         for copy in 0..COPIES {
             let bytes = self.damaged(&good, &sound);
             let image = self.lend_image(&bytes);
             if copy < UNPACKED {
-                compare(&self.unpack_call(image.clone(), &sound));
+                let unpack = self.unpack_call(image.clone(), &sound);
+                compare(&self.with_nans(unpack));
             }
-            compare(&ImageCall::new(Kind::Read, image));
+            let read = ImageCall::new(Kind::Read, image);
+            compare(&self.with_nans(read));
         }
     }
 

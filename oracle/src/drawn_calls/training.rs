@@ -2,8 +2,8 @@
 
 use super::{Maker, NOT_FINITE};
 use crate::calls::{Call, Kind};
-use crate::program::{Compare, Round};
 use crate::reading::Configuration;
+use crate::rounds::{Compare, Round};
 
 /// Large models take fewer steps, as each costs time.
 const MOST_STEPS: usize = 60;

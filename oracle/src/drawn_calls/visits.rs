@@ -3,8 +3,8 @@
 use super::Maker;
 use crate::calls::{Call, Kind};
 use crate::lent::Lent;
-use crate::program::{Compare, Round};
 use crate::reading::Configuration;
+use crate::rounds::{Compare, Round};
 
 impl Maker {
     /// One drawn map.

@@ -3,7 +3,7 @@
 use super::{is_finite, refuse, Configuration, Refusal};
 use crate::ported::Grid;
 
-/// "A trailer of eight words."
+/// R13.2: the trailer, eight words.
 pub const TRAILER: usize = 32;
 pub const LONGEST: usize = 8_388_608;
 const VERSION: u32 = 1;
@@ -29,13 +29,13 @@ pub struct Description {
     pub parameters: usize,
 }
 
-/// "The image must be 32 + 4K + 4P long."
+/// R13.2: an image is 32 + 4K + 4P bytes long.
 pub fn length(config: &Configuration) -> usize {
     TRAILER + 4 * config.widths.len() + 4 * config.parameters()
 }
 
-/// "Little-endian words of 4 bytes: P parameters as bits, the K widths, a trailer .. that points back"; for an accepted
-/// configuration with its parameters.
+/// R13.1, R13.2: words of 4 bytes: P parameters as bits, the K widths, the trailer; for an accepted configuration with
+/// its parameters.
 pub fn image(config: &Configuration, model: &[f32]) -> Vec<u8> {
     let mut words: Vec<u32> = model.iter().map(|x| x.to_bits()).collect();
     words.extend(config.widths.iter().map(|&width| width as u32));
@@ -52,7 +52,7 @@ pub fn image(config: &Configuration, model: &[f32]) -> Vec<u8> {
     words.into_iter().flat_map(u32::to_le_bytes).collect()
 }
 
-/// "The writer refuses in the order configuration, 8, 10, 11."
+/// R3.4: the writer refuses in the order configuration, 8, 10, 11.
 pub fn write(config: &Configuration, model: &[f32], bytes: &mut [u8]) -> Result<(), Refusal> {
     config.accepted()?;
     if model.len() != config.parameters() {
@@ -79,8 +79,7 @@ pub fn trailer(bytes: &[u8], word: Word) -> u32 {
     word_at(bytes, bytes.len() - TRAILER + 4 * word as usize)
 }
 
-/// "Checks: 24; shorter than 32 gives 27; 25; 26; widths' distance wrong or too long, 27; configuration; length or first
-/// distance wrong, 27; 11."
+/// R13.3: the reader's checks in their order.
 pub fn read(bytes: &[u8]) -> Result<Description, Refusal> {
     if bytes.len() > LONGEST {
         return refuse(24);

@@ -13,7 +13,7 @@ pub struct Lesson<'a> {
     pub rate: f32,
 }
 
-/// "Training needs P + 2N", lent as two slices: P for the gradients, 2N for the nodes.
+/// R2.7: training is lent two slices: P for the gradients, 2N for the nodes.
 pub struct Room<'a> {
     pub gradients: &'a mut [f32],
     pub work: &'a mut [f32],
@@ -30,13 +30,13 @@ pub fn train(
         return (0, Err(early));
     }
     let answer = train_rows(config, model, lesson);
-    // "Past check 9, and after success too, the needed first part of each work slice is left all +0.0."
+    // R3.6: past check 9, and after success too, the needed part of each slice is all +0.0.
     room.gradients[..config.parameters()].fill(0.0);
     room.work[..2 * config.nodes()].fill(0.0);
     answer
 }
 
-/// "Calls on a model go on: 8, 9 .."
+/// R3.4: the configuration, 8, 9.
 fn admit(config: &Configuration, model: &[f32], room: &Room) -> Result<(), Refusal> {
     config.accepted()?;
     let parameters = config.parameters();
@@ -49,8 +49,7 @@ fn admit(config: &Configuration, model: &[f32], room: &Room) -> Result<(), Refus
     Ok(())
 }
 
-/// 11, then "12, 13, inputs row by row (14 before 15), targets row by row (16 before 17), 18, then for training 19";
-/// "0 steps still checks the batch and rate".
+/// R3.4: 11, then the batch's 12 to 18 (R5.4), then 19; R10.10: 0 steps make these checks too.
 fn train_rows(
     config: &Configuration,
     model: &mut [f32],
@@ -73,7 +72,7 @@ fn train_rows(
     let (done, end) = steps_until_refused(&mut network, steps, |network| {
         network.train_step(&inputs, &targets, rate)
     });
-    // "`train` refused at a later step keeps the earlier steps."
+    // R10.9: refused at a later step, the earlier steps stay.
     model.copy_from_slice(&models::parameters(&network));
     if steps > 1 {
         let at_once = whole.train(&inputs, &targets, steps, rate);
@@ -86,7 +85,7 @@ fn train_rows(
     (done, end)
 }
 
-/// "That count is the number of steps the definition applies before its first refusal, or all asked for."
+/// R10.9: the steps done are those before the first refused one, or all that were asked for.
 fn steps_until_refused(
     network: &mut Kan,
     steps: usize,

@@ -16,7 +16,7 @@ pub enum Rule {
 /// The rule that the estimator follows.
 pub const RULE: Rule = Rule::Value;
 
-/// "A coefficient is 1 when its basis value is not zero at some number its edge reads." -0.0 is zero, NaN is not.
+/// R12.3: a coefficient is 1 when its basis value is not zero at some number its edge reads. -0.0 is zero, NaN is not.
 pub fn is_visited(rule: Rule, basis: &Basis, coefficient: usize) -> bool {
     let by_value = basis.values[coefficient] != 0.0;
     let by_slope = basis.slopes[coefficient] != 0.0;
@@ -26,7 +26,7 @@ pub fn is_visited(rule: Rule, basis: &Basis, coefficient: usize) -> bool {
     }
 }
 
-/// "Batch checks are those of prediction, the row carried too."
+/// R12.4: the checks of prediction, the row carried too.
 pub fn map(
     config: &Configuration,
     model: &[f32],
@@ -40,7 +40,7 @@ pub fn map(
     answer
 }
 
-/// 10 ("P for the map"), 11, then the rows: "all zero after 14, 15 or 20".
+/// 10 (R3.5: P bytes for the map), 11, then the rows; R12.4: all 0 after 14, 15 or 20.
 fn map_rows(
     config: &Configuration,
     model: &[f32],
@@ -83,7 +83,7 @@ fn layers(config: &Configuration, model: &[f32]) -> Vec<Kan> {
     layers
 }
 
-/// Marks all that one row visits. "Weights are 1 if there is any row."
+/// Marks all that one row visits. R12.2: weights are 1 if there is any row.
 fn mark(config: &Configuration, layers: &[Kan], input: Vec<f32>, map: &mut [u8]) {
     let per_edge = config.grid.intervals + 5;
     let mut nodes = input;

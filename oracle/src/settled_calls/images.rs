@@ -1,14 +1,15 @@
 //! Chosen calls of the model image.
 
 use super::{base, chain, grouped, headed, infinite, largest_models, pair, settled, writes};
-use super::{Chosen, Group, Model, Settled, NAN};
+use super::{Group, Model, FAULTY, NAN};
 use crate::calls::bits;
+use crate::compared::Compared;
 use crate::image_calls::{ImageCall, Kind};
 use crate::lent::Lent;
-use crate::outcomes::Compared;
 use crate::ported::Grid;
 use crate::reading::images::Word::{self, *};
 use crate::reading::images::{self, LONGEST, TRAILER};
+use crate::settled::{Chosen, Settled};
 
 const OLD_BYTE: u8 = 0x55;
 const OLD_WIDTH: usize = 77;
@@ -38,7 +39,7 @@ pub fn stored_images() -> Chosen<ImageCall> {
     grouped(STORED, &[], false)
 }
 
-/// The image of the paper: [1, 1], g 2, [-1, 1], all parameters 0.0 but spline weight 1.0.
+/// The image of R16.4: [1, 1], g 2, [-1, 1], all parameters 0.0 but spline weight 1.0.
 fn good() -> Vec<u8> {
     let mut bytes = vec![0, 0, 0, 0, 0, 0, 0x80, 0x3f];
     bytes.resize(28, 0);
@@ -109,7 +110,7 @@ fn writing() -> Vec<Settled<ImageCall>> {
     let deep = chain((-1.0, 1.0), &[[1.0; 7], [-2.0; 7]]);
     let accepted = [
         (
-            "Document 01's image is written: [1, 1], g 2, [-1, 1], all parameters 0.0 but spline weight 1.0",
+            "The image of R16.4 is written: [1, 1], g 2, [-1, 1], all parameters 0.0 but spline weight 1.0",
             writes(write(&zero, 68), 0, 0, &written),
         ),
         (
@@ -175,21 +176,7 @@ fn unwritten(call: ImageCall, number: u32, carried: usize) -> Settled<ImageCall>
 
 /// Every refusal of the configuration, before a model that is short, an image that is short and a parameter that is not finite.
 fn faulty_writing() -> Vec<Settled<ImageCall>> {
-    let (usual, point) = ((-1.0, 1.0), (1.0, 1.0));
-    let (p30, p31, p32) = (1 << 30, 1 << 31, 1 << 32);
-    let cases: [(&[usize], usize, (f32, f32), u32, usize); 10] = [
-        (&[], 1, usual, 1, 0),
-        (&[1], 1, usual, 1, 0),
-        (&[1, 0], 1, usual, 1, 0),
-        (&[p32, p32], 0, usual, 2, 0),
-        (&[1, 1], 0, point, 3, 0),
-        (&[1, 1], 67_108_862, usual, 4, 0),
-        (&[p31, p31], 1, point, 5, 0),
-        (&[p31, p30, p31, p31], 1, usual, 6, 0),
-        (&[1, 1], 249_996, point, 7, 250_001),
-        (&[1, 1], 2, (NAN, 1.0), 4, 0),
-    ];
-    let calls = cases.map(|(widths, intervals, (lo, hi), number, carried)| {
+    let calls = FAULTY.map(|(widths, intervals, (lo, hi), number, carried)| {
         let mut call = write(&infinite(), 5);
         call.widths = Lent::new(widths);
         call.grid = Grid::new(intervals, lo, hi);
@@ -210,7 +197,7 @@ fn good_images() -> Vec<Settled<ImageCall>> {
     let two = images::image(&pair().config, &pair().parameters);
     let groups = [
         (
-            "Document 01's image: g 2, [-1, 1], 2 widths, 7 parameters",
+            "The image of R16.4: g 2, [-1, 1], 2 widths, 7 parameters",
             vec![
                 writes(read(&good()), 0, 0, &[2, lo, hi, 2, 7]),
                 writes(unpack(&good(), 2, 7), 0, 0, &unpacked),

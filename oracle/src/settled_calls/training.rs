@@ -1,15 +1,17 @@
 //! Chosen calls of training.
 
 use super::{base, chain, edge, fan, grouped, infinite, largest_models, pair, settled, writes};
-use super::{Chosen, Group, Model, Settled, NAN, OLD_WORK};
+use super::{with_faults, Group, Model, NAN, OLD_WORK};
 use crate::calls::{bits, Call, Kind};
 use crate::lent::Lent;
 use crate::reading::MOST_TARGETS;
+use crate::settled::{Chosen, Settled};
 
 /// All chosen calls of the program `training`.
 pub fn settled_training(large: bool) -> Chosen<Call> {
     const USUAL: &[Group<Call>] = &[
         examples,
+        faulty_configurations,
         lengths,
         orders,
         rates,
@@ -103,6 +105,13 @@ fn examples() -> Vec<Settled<Call>> {
 fn all_refused(cases: impl IntoIterator<Item = (Call, u32)>) -> Vec<Settled<Call>> {
     let cases = cases.into_iter();
     cases.flat_map(|(c, number)| refused(c, number)).collect()
+}
+
+/// Every refusal of the configuration.
+fn faulty_configurations() -> Vec<Settled<Call>> {
+    let train = base(0.0).train(&[0.0, 0.5], &[1.0, 2.0], 2, 0.5);
+    let calls = [as_step(&train), train];
+    calls.iter().flat_map(with_faults).collect()
 }
 
 /// Lengths that are wrong, several at a time; inputs, targets and rate are too.

@@ -1,11 +1,14 @@
 //! Chosen calls of the visit map.
 
 use super::training::slopes_beside_zero;
-use super::{base, chain, grouped, headed, infinite, largest_models, pair, settled, writes};
-use super::{Chosen, Group, Model, Settled, NAN};
+use super::{
+    base, chain, grouped, headed, infinite, initial, largest_models, pair, settled, writes,
+};
+use super::{Group, Model, FAULTY, NAN};
 use crate::calls::{Call, Kind};
 use crate::lent::Lent;
 use crate::ported::Grid;
+use crate::settled::{Chosen, Settled};
 
 const OLD_MARK: u8 = 7;
 
@@ -13,7 +16,8 @@ const SMALL: &[Group<Call>] = &[marks, refusals, faulty_configurations, unlike_s
 
 /// All chosen calls of the program `visits`; none is large.
 pub fn settled_visits(large: bool) -> Chosen<Call> {
-    Box::new(grouped(SMALL, &[], false).chain(grouped(&[largest_networks], &[], large)))
+    const UNSTORED: &[Group<Call>] = &[outside_infinite_knots, largest_networks];
+    Box::new(grouped(SMALL, &[], false).chain(grouped(UNSTORED, &[], large)))
 }
 
 /// Those of them that are stored as cases of the program `model_vectors`, and the training that two of them speak of.
@@ -150,21 +154,7 @@ fn refusals() -> Vec<Settled<Call>> {
 
 /// Every refusal of the configuration, before a model that is short, work that is not there, and a map that is short.
 fn faulty_configurations() -> Vec<Settled<Call>> {
-    let (usual, point) = ((-1.0, 1.0), (1.0, 1.0));
-    let (p30, p31, p32) = (1 << 30, 1 << 31, 1 << 32);
-    let cases: [(&[usize], usize, (f32, f32), u32, usize); 10] = [
-        (&[], 1, usual, 1, 0),
-        (&[1], 1, usual, 1, 0),
-        (&[1, 0], 1, usual, 1, 0),
-        (&[p32, p32], 0, usual, 2, 0),
-        (&[1, 1], 0, point, 3, 0),
-        (&[1, 1], 67_108_862, usual, 4, 0),
-        (&[p31, p31], 1, point, 5, 0),
-        (&[p31, p30, p31, p31], 1, usual, 6, 0),
-        (&[1, 1], 249_996, point, 7, 250_001),
-        (&[1, 1], 2, (NAN, 1.0), 4, 0),
-    ];
-    let calls = cases.map(|(widths, intervals, (lo, hi), number, carried)| {
+    let calls = FAULTY.map(|(widths, intervals, (lo, hi), number, carried)| {
         let mut call = Call::new(Kind::Visits, widths, Grid::new(intervals, lo, hi));
         call.model = Lent::new(&[f32::INFINITY; 3]);
         call.inputs = Lent::new(&[NAN]);
@@ -195,6 +185,15 @@ fn unlike_slopes() -> Vec<Settled<Call>> {
             maps(narrow.visits(&[0.0]), &[1, 1, 1, 1, 1, 0, 0].repeat(2)),
         ),
     ])
+}
+
+/// Below the first knot where the last knots are infinite: the Rust's last slope is NaN there, and by R6.3 it is 0.
+fn outside_infinite_knots() -> Vec<Settled<Call>> {
+    let half = f32::from_bits(0x7eff_ffff);
+    let model = initial(&[1, 1], Grid::new(25, -half, half), 0);
+    let mut marks = [0; 30];
+    marks[..2].fill(1);
+    vec![maps(model.visits(&[-3e38]), &marks)]
 }
 
 fn trained_slopes() -> Vec<Settled<Call>> {

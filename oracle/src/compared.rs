@@ -1,0 +1,82 @@
+//! What all compared calls have in common: a kind, two ways of being made, and a line of the table on which they end.
+
+use crate::lent::Lent;
+use crate::nans::NanAt;
+use std::fmt::Display;
+
+/// A line of the table: a number of refusal, 0 for accepted calls, or one of those below.
+pub type Line = usize;
+
+/// The refusals of R3.1, and accepted calls.
+const NUMBERS: usize = 28;
+/// 4 with the domain [-1, 1].
+pub const DEFAULT_4: Line = NUMBERS;
+/// 20 and 23 after at least one step of the same call.
+pub const LATER_20: Line = NUMBERS + 1;
+pub const LATER_23: Line = NUMBERS + 2;
+/// So many lines are there.
+pub const LINES: usize = NUMBERS + 3;
+
+/// A kind of call: a column of the table.
+pub trait Column: Copy + PartialEq + Display + Sync + 'static {
+    /// Whether a call of this kind can end on this line.
+    fn gives(self, line: Line) -> bool;
+
+    /// Whether one that does can leave floats alone that it was lent, without having asked whether they are finite.
+    fn leaves_floats(self, line: Line) -> bool;
+}
+
+/// A call with everything that is lent to it, before it is made or after.
+pub trait Compared: Clone + Display {
+    type Kind: Column;
+
+    fn kind(&self) -> Self::Kind;
+
+    /// The call as the rules have it.
+    fn read(self) -> Self;
+
+    /// Everything in which two ends of the same call differ, as lines.
+    fn differences(&self, reading: &Self) -> Vec<String>;
+
+    /// The number that the call gave, and what it carried.
+    fn answer(&self) -> (u32, usize);
+
+    fn line(&self) -> Line;
+
+    /// The bits of what a call of its kind writes, for the settled answers.
+    fn written(&self) -> Vec<u64>;
+
+    /// All lent floats by name.
+    fn floats(&self) -> Vec<(&'static str, &Lent<f32>)>;
+
+    /// The answer that the call will give, as far as that tells which of the lent floats decide it.
+    fn expected(&self) -> (u32, usize) {
+        self.clone().read().answer()
+    }
+
+    /// The same call with NaN in all lent floats that do not decide this answer of it: what is only written, and what lies
+    /// behind the fault that it is refused for.
+    fn with_nans(self, answer: (u32, usize), nan_at: NanAt) -> Self;
+
+    /// The training steps that were made.
+    fn steps(&self) -> u64 {
+        0
+    }
+}
+
+/// All lines, the particular ones beside their numbers: 4 with the domain [-1, 1] before the other 4.
+pub fn lines_in_order() -> impl Iterator<Item = Line> {
+    let to_20 = (0..4).chain([DEFAULT_4]).chain(4..=20).chain([LATER_20]);
+    to_20.chain(21..=23).chain([LATER_23]).chain(24..NUMBERS)
+}
+
+pub fn line_name(line: Line) -> String {
+    match line {
+        0 => "accepted".to_owned(),
+        4 => "4, given".to_owned(),
+        DEFAULT_4 => "4, [-1, 1]".to_owned(),
+        LATER_20 => "20, later".to_owned(),
+        LATER_23 => "23, later".to_owned(),
+        number => number.to_string(),
+    }
+}

@@ -1,35 +1,51 @@
-# make test: the whole verdict. Its last line is 'N passed, 0 failed'.
-# make demo: builds the library and the example scheduler, and runs it.
-# make install PREFIX=/usr/local: archive, headers, pkg-config and CMake files; make test-install tries it.
-# make bench: times the library beside the Rust; docs/SPEED.md. make robustness: sanitizers, valgrind, fuzzer.
-# ESTIMATOR_LIB=FOLDER takes FOLDER/libestimator.a instead of proving and building one.
-.PHONY: test demo archive install test-install bench robustness
+# `make` alone prints what there is.
+.PHONY: help test demo archive install uninstall test-install bench robustness clean
+.DEFAULT_GOAL := help
 
 PREFIX ?= /usr/local
-CXXFLAGS ?= -O2 -Wall -Wextra
-archive := $(or $(ESTIMATOR_LIB),target/staticlib)/libestimator.a
-tree = $(DESTDIR)$(PREFIX)
+LIBDIR ?= $(PREFIX)/lib
+INCLUDEDIR ?= $(PREFIX)/include
+DOCDIR ?= $(PREFIX)/share/doc/estimator
+CXXFLAGS ?= -O2 -Wall -Wextra -ffp-contract=off
+# Handed to the script alone: exported, they would reach the make that `make test-install` starts with another PREFIX.
+folders = PREFIX="$(PREFIX)" LIBDIR="$(LIBDIR)" INCLUDEDIR="$(INCLUDEDIR)" DOCDIR="$(DOCDIR)" DESTDIR="$(DESTDIR)"
+
+help:
+	@echo 'make archive        prove the library and write target/lib/libestimator.a'
+	@echo 'make demo           build the example scheduler and run it'
+	@echo 'make install        archive, headers, pkg-config file, CMake package, licences'
+	@echo '                      PREFIX=/usr/local LIBDIR=PREFIX/lib INCLUDEDIR=PREFIX/include'
+	@echo '                      DOCDIR=PREFIX/share/doc/estimator DESTDIR='
+	@echo 'make uninstall      remove what make install put there; same variables'
+	@echo 'make test           the verdict: proofs, edits that must fail, runs, comparison with the Rust'
+	@echo 'make test-install   install into a fresh folder and build against it in every way'
+	@echo 'make robustness     sanitizers, valgrind, fuzzers (FUZZ_SECONDS=60 each)'
+	@echo 'make bench          times, instructions and stack beside the Rust'
+	@echo 'make clean          remove target/, stored proofs included'
+	@echo
+	@echo 'ESTIMATOR_LIB=FOLDER  take FOLDER/libestimator.a instead of proving and building one'
+	@echo 'KAN_RUST=FOLDER       the Rust that test and bench compare with (oracle/README.md)'
 
 test:
 	scripts/test.sh
 
-demo: archive
-	@scripts/need.sh g++=g++
-	@mkdir -p target/demo
-	$(CXX) -std=c++17 $(CXXFLAGS) -Iinclude examples/scheduler/main.cpp $(archive) -o target/demo/scheduler
-	target/demo/scheduler examples/scheduler/files.csv target/demo/model.kan
-	@echo "and every machine reaches these, as the published Rust did:"
-	@cd target/demo && sha256sum --check $(CURDIR)/examples/scheduler/model.sha256
-
 archive:
 	@scripts/archive.sh
 
+demo: archive
+	@scripts/need.sh g++=g++
+	@mkdir -p target/demo
+	$(CXX) -std=c++17 $(CXXFLAGS) -Iinclude examples/scheduler/main.cpp target/lib/libestimator.a -o target/demo/scheduler
+	target/demo/scheduler examples/scheduler/files.csv target/demo/model.kan
+	@echo "and every machine reaches these, as the published Rust did:"
+	@cd target/demo && sha256sum --check "$(CURDIR)/examples/scheduler/model.sha256"
+
 install: archive
-	install -d $(tree)/include $(tree)/lib/pkgconfig $(tree)/lib/cmake/estimator
-	install -m 644 include/estimator.h include/estimator.hpp $(tree)/include
-	install -m 644 $(archive) $(tree)/lib
-	install -m 644 packaging/estimator.pc $(tree)/lib/pkgconfig
-	install -m 644 packaging/*.cmake $(tree)/lib/cmake/estimator
+	@$(folders) packaging/install.sh install
+	@echo "installed under $(DESTDIR)$(PREFIX), the archive in $(DESTDIR)$(LIBDIR)"
+
+uninstall:
+	@$(folders) packaging/install.sh uninstall
 
 test-install:
 	packaging/test.sh
@@ -39,3 +55,6 @@ bench: archive
 
 robustness: archive
 	robustness/run.sh
+
+clean:
+	rm -rf target

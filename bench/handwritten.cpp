@@ -1,6 +1,6 @@
 // The fast algorithm written by hand, not proved: four basis values for each input and SiLU once for each input, with
-// the bits of document 01. Only for grids whose knots span a finite range; on others a value outside the four may be no
-// zero.
+// the bits of docs/RULES.md. Only for grids whose knots span a finite range; on others a value outside the four may be
+// no zero.
 #include "handwritten.h"
 
 #include <algorithm>

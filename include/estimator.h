@@ -1,9 +1,10 @@
 /*
  * estimator.h - compile times estimated by a small Kolmogorov-Arnold network.
  *
- * Link with libestimator.a. Every machine reaches the same bits.
+ * For Linux on x86-64. Link with libestimator.a. Results are uniquely
+ * determined: the same arguments give the same bits on every machine.
  *
- * A network is described anew in each call, by five arguments:
+ * Every call describes the network by the same five arguments:
  *
  *   widths, widths_len   nodes of each layer: inputs first, outputs last
  *   intervals            intervals g of the spline grid
@@ -12,7 +13,7 @@
  * From them follow
  *
  *   P   the number of parameters: the sum over neighbouring widths of
- *       in * out * (g + 5); kan_check tells it
+ *       in * out * (g + 5); kan_check returns it
  *   W   the largest width, the input width too
  *   N   the sum of the widths
  *
@@ -21,7 +22,7 @@
  * its spline weight and g + 3 coefficients.
  *
  * A batch is flat: row follows row, each of the input width (targets and
- * outputs: of the output width). If its length is no multiple of the width,
+ * outputs: of the output width). If its length is not a multiple of the width,
  * the last row is short; a short row counts as a row and is refused when its
  * turn comes.
  *
@@ -30,9 +31,8 @@
  *    1  fewer than two widths, or a zero width
  *    2  a product of neighbouring widths is 2^64 or more
  *    3  grid intervals g is 0 or above 2^63 - 8
- *    4  the domain: an end not finite, lo not below hi, or a grid whose steps
- *       are not finite or do not move its ends; first asked of g with the
- *       domain [-1, 1] (refused from 67,108,862 on), last of the given domain
+ *    4  the domain does not define a finite, representable uniform grid with
+ *       lo below hi
  *    5  one layer's parameter count is 2^64 or more
  *    6  the running total's parameter count is 2^64 or more
  *    7  total above 250,000; carries the total
@@ -59,21 +59,38 @@
  *
  * "Configuration" below stands for 1, 2, 3, 4 with the domain [-1, 1], layer by
  * layer 5 and 6, then 7, then 4 with the given domain, in this order.
+ * The first 4 refuses g from 67,108,862 on. A domain is refused where an end is
+ * not finite, lo is not below hi, or the grid's steps are not finite or do not
+ * move its ends.
  *
  * `carried` is always written: what the refusal carries, and 0 where it carries
- * nothing and on success. Any other lent number is written on success only, but
- * for `done`, which is always written.
+ * nothing and on success. Any other number returned through a pointer is
+ * written on success only, except `done`, which is always written.
  *
- * No function allocates, or keeps anything between calls: threads may call at
- * the same time, each with its own buffers to write. What a call only reads
- * (const), they may share.
+ * All memory is in caller-provided buffers. No function allocates, or keeps
+ * anything between calls: threads may call at the same time, each with its own
+ * buffers to write. What a call only reads (const), they may share.
  *
- * What the caller owes, since no function can check it:
- *   - each pointer is valid for its length, counted in elements; null is fine
- *     with length 0. A pointer to a single number, as `carried`, is never null.
- *   - buffers, and the lent numbers too, do not overlap.
- *   - rounding is to nearest, and subnormals are kept: a thread that flushes
- *     them to zero, as games often do, must not do so during a call.
+ * Stack: every call fits in ESTIMATOR_STACK_BYTES, arguments and return
+ * addresses included. The largest figures measured: 3,952 bytes for kan_train
+ * and kan_train_step, 2,144 for kan_predict, kan_loss and kan_visits, 528 for
+ * the others. So on a fibre of 4 KiB training leaves its caller 144 bytes,
+ * prediction 1.9 KiB. The first call needs no more than later ones: memset, all
+ * that the archive needs of the C library, is bound when the program is loaded.
+ * If you put the archive into a shared object, link its callers with
+ * -Wl,-z,now: else their own calls of it are bound late, on the fibre.
+ *
+ * What the caller must ensure, since no function can check it:
+ *   - each pointer is valid for its length, counted in elements; null is
+ *     accepted with length 0. A pointer to a single number, such as `carried`,
+ *     must never be null.
+ *   - buffers, and the numbers returned through pointers, do not overlap.
+ *   - the thread's floating-point settings are the usual ones during a call:
+ *     rounding to nearest; subnormals kept, not flushed to zero (-ffast-math and
+ *     many games flush them), else the bits differ; and no floating-point traps:
+ *     after feenableexcept a call may end in SIGFPE, since inexact results are
+ *     ordinary here, and overflow and invalid operations are how some refusals
+ *     are found. estimator.hpp sets all three for each call.
  */
 #ifndef ESTIMATOR_H
 #define ESTIMATOR_H
@@ -85,12 +102,30 @@
 #error "the estimator needs a size_t of 64 bits"
 #endif
 
+/* The version of this library. What is installed beside this header takes it from these three lines. */
+#define ESTIMATOR_VERSION_MAJOR 0
+#define ESTIMATOR_VERSION_MINOR 1
+#define ESTIMATOR_VERSION_PATCH 0
+
+/* "0.1.0" */
+#define ESTIMATOR_VERSION                                                       \
+    ESTIMATOR_TEXT(ESTIMATOR_VERSION_MAJOR)                                     \
+    "." ESTIMATOR_TEXT(ESTIMATOR_VERSION_MINOR) "." ESTIMATOR_TEXT(ESTIMATOR_VERSION_PATCH)
+/* For #if: 100 for 0.1.0, 10203 for 1.2.3. */
+#define ESTIMATOR_VERSION_NUMBER \
+    (ESTIMATOR_VERSION_MAJOR * 10000 + ESTIMATOR_VERSION_MINOR * 100 + ESTIMATOR_VERSION_PATCH)
+#define ESTIMATOR_TEXT(number) ESTIMATOR_TEXT_OF(number)
+#define ESTIMATOR_TEXT_OF(number) #number
+
+/* Bytes of stack that any call needs at most. */
+#define ESTIMATOR_STACK_BYTES 4096
+
 #ifdef __cplusplus
 extern "C" {
 #endif
 
 /*
- * Checks a configuration and tells its number of parameters, P.
+ * Checks a configuration and returns its number of parameters, P.
  *
  * Refusals: configuration. 7 carries the total.
  * Memory: on success `parameters` holds P; refused, it is unchanged.
@@ -111,7 +146,7 @@ uint32_t kan_initialise(const size_t *widths, size_t widths_len, size_t interval
 /*
  * Predicts every row of a batch. `outputs` has rows * output width floats, and
  * the two work slices `first` and `second` at least W each. No rows, with no
- * outputs, is fine.
+ * outputs, is accepted.
  *
  * Refusals: configuration, 8, 9, 10, 11, then row by row 14, 15, 20. 7 carries
  * the total; 14, 15 and 20 carry the row, counted from 0.
@@ -143,7 +178,7 @@ uint32_t kan_loss(const size_t *widths, size_t widths_len, size_t intervals, flo
 
 /*
  * One step of gradient descent on the mean squared error of a batch: from each
- * parameter, `rate` times its gradient is taken away. `gradients` has at least
+ * parameter, `rate` times its gradient is subtracted. `gradients` has at least
  * P floats and `work` at least 2N.
  *
  * Refusals: configuration, 8, 9, 11, 12, 13, each input row's 14 and 15, each
@@ -160,8 +195,8 @@ uint32_t kan_train_step(const size_t *widths, size_t widths_len, size_t interval
                         float *gradients, size_t gradients_len, float *work, size_t work_len, size_t *carried);
 
 /*
- * So many steps, each as kan_train_step makes it. 0 steps makes all checks up
- * to 19 and no step.
+ * `steps` steps, each as kan_train_step makes it. With 0 steps, all checks up
+ * to 19 are made and no step.
  *
  * Refusals: as kan_train_step; 20 and 23 come step by step.
  * Memory: `done` is always written: the steps made, all of them on success and
@@ -179,12 +214,13 @@ uint32_t kan_train(const size_t *widths, size_t widths_len, size_t intervals, fl
  * The visit map of a batch, one byte for each parameter: a coefficient's is 1
  * when its basis value is not zero at some number that its edge reads, a
  * weight's when there is any row; else 0. `map` has P bytes, and the two work
- * slices `first` and `second` at least W floats each. No rows is fine.
+ * slices `first` and `second` at least W floats each. No rows is accepted.
  *
  * Refusals: configuration, 8, 9, 10, 11, then row by row 14, 15, 20. 7 carries
  * the total; 14, 15 and 20 carry the row, counted from 0.
  * Memory: on success all of `map` is written; after 14, 15 or 20 it is all 0;
- * after any other refusal it is unchanged. Work as in kan_predict.
+ * after any other refusal it is unchanged. The work slices are left as
+ * kan_predict leaves them.
  */
 uint32_t kan_visits(const size_t *widths, size_t widths_len, size_t intervals, float lo, float hi,
                     const float *model, size_t model_len, const float *inputs, size_t inputs_len,
@@ -205,7 +241,7 @@ uint32_t kan_image_write(const size_t *widths, size_t widths_len, size_t interva
                          const float *model, size_t model_len, uint8_t *image, size_t image_len, size_t *carried);
 
 /*
- * Checks an image, whatever its bytes, and tells what it holds: g, the domain,
+ * Checks an image, whatever its bytes, and returns what it holds: g, the domain,
  * how many widths and how many parameters.
  *
  * Refusals: 24, 27 (shorter than 32 bytes), 25, 26, 27 (the widths' distance),
@@ -219,7 +255,7 @@ uint32_t kan_image_read(const uint8_t *image, size_t image_len, size_t *interval
 
 /*
  * Takes the widths and the parameters out of an image, each bit as it was
- * written. kan_image_read tells how many there are.
+ * written. kan_image_read returns how many there are.
  *
  * Refusals: those of kan_image_read, then 10 where `widths_len` or `model_len`
  * is not that number. 7 carries the total, 25 the version.

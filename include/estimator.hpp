@@ -1,8 +1,10 @@
 // estimator.hpp - the estimator for C++17: values and typed answers over estimator.h.
 //
-// Everything here is inline and only calls libestimator.a; what each call promises stands in estimator.h. Nothing
-// throws, and -fno-exceptions is fine. Calls that fill a buffer of the caller's (predict into outputs, loss, train
-// after its first call) allocate nothing.
+// Everything here is inline and only calls libestimator.a; what each call promises is in estimator.h. A refusal is a
+// value, never an exception, and -fno-exceptions is fine. The standard library may throw std::bad_alloc where memory is
+// allocated: in whatever makes or copies a Config, Model or Work, in image(), visits(), message(), read_file and
+// write_file, and in train() when a Work trains a model of this size for the first time. predict() and loss() are
+// noexcept and allocate nothing; later calls of train() allocate nothing either.
 //
 //     using namespace estimator;
 //     Result<Model> model = Model::initialise({{3, 6, 1}, 8, 0.0f, 1.0f}, 42);
@@ -17,20 +19,25 @@
 
 #include "estimator.h"
 
+#include <cerrno>
 #include <cstddef>
 #include <cstdint>
 #include <cstdio>
 #include <cstdlib>
+#include <memory>
 #include <optional>
 #include <string>
+#include <sys/stat.h> // the archive is for Linux
+#include <system_error>
 #include <type_traits>
+#include <unistd.h>
 #include <utility>
 #include <vector>
-#include <xmmintrin.h> // the archive is for x86-64
+#include <xmmintrin.h> // on x86-64
 
 namespace estimator {
 
-// Why a call was refused, by document 01's numbers.
+// Why a call was refused, by the numbers of estimator.h.
 enum class Reason : std::uint32_t {
     accepted = 0,
     widths = 1,
@@ -62,7 +69,7 @@ enum class Reason : std::uint32_t {
     image_malformed = 27,
 };
 
-// Document 01's words for a reason; for the domain those of the Rust that it points to.
+// A reason in words.
 constexpr const char *words(Reason reason) noexcept {
     constexpr const char *texts[] = {
         "accepted",
@@ -98,11 +105,17 @@ constexpr const char *words(Reason reason) noexcept {
     return number < sizeof texts / sizeof *texts ? texts[number] : "a reason that this header does not know";
 }
 
+// A batch as a call reads it: its rows, and the widths of the model's inputs and outputs.
+struct BatchShape {
+    std::size_t rows, input_width, output_width;
+};
+
 // Whether a call was accepted; if not, why, and what the refusal carries.
 struct [[nodiscard]] Outcome {
     Reason reason = Reason::accepted;
     std::size_t carried = 0;
     bool carries_row = false;
+    std::optional<BatchShape> batch; // where the reason is output_length
 
     explicit operator bool() const noexcept { return reason == Reason::accepted; }
     std::uint32_t number() const noexcept { return static_cast<std::uint32_t>(reason); }
@@ -121,21 +134,28 @@ struct [[nodiscard]] Outcome {
             return text + " (row " + std::to_string(carried) + ")";
         if (reason == Reason::model_too_large || reason == Reason::image_version)
             return text + " (" + std::to_string(carried) + ")";
+        if (batch)
+            return text + " (" + product(batch->rows, batch->input_width) + " inputs need " +
+                   product(batch->rows, batch->output_width) + " outputs)";
         return text;
     }
+
+  private:
+    static std::string product(std::size_t a, std::size_t b) { return std::to_string(a) + " x " + std::to_string(b); }
 };
 
 // A value, or why there is none.
-template <class T>
+template <class T, class Why = Outcome>
 class [[nodiscard]] Result {
   public:
     Result(T value) : held(std::move(value)) {}
-    Result(Outcome refusal) : why(refusal) {}
+    Result(Why refusal) : why(std::move(refusal)) {}
 
     explicit operator bool() const noexcept { return held.has_value(); }
-    const Outcome &outcome() const noexcept { return why; }
+    const Why &outcome() const noexcept { return why; }
 
-    // The value. To ask for one that is not there is a mistake of the program: it ends with the refusal's message.
+    // The value. Asking for one that is not there is a mistake of the program: it prints the message to standard error
+    // and aborts.
     T &value() & { return demand(), *held; }
     const T &value() const & { return demand(), *held; }
     T value() && { return demand(), std::move(*held); }
@@ -154,14 +174,15 @@ class [[nodiscard]] Result {
     }
 
     std::optional<T> held;
-    Outcome why;
+    Why why;
 };
 
-// While it lives, the thread rounds to nearest, keeps subnormals and traps on nothing, as the library's promises ask;
-// then the thread's own settings are back. Every call below holds one: -ffast-math and many games set others.
+// While it lives, the thread rounds to nearest, keeps subnormals and has all floating-point traps masked, as
+// estimator.h asks; then the thread's own settings are back. Every call below holds one: -ffast-math, feenableexcept
+// and many games set others.
 class ExactFloats {
   public:
-    ExactFloats() noexcept : own(_mm_getcsr()) { _mm_setcsr(0x1f80); }
+    ExactFloats() noexcept : own(_mm_getcsr()) { _mm_setcsr(0x1f80); } // all traps masked, nothing else set
     ~ExactFloats() { _mm_setcsr(own); }
     ExactFloats(const ExactFloats &) = delete;
     ExactFloats &operator=(const ExactFloats &) = delete;
@@ -170,13 +191,16 @@ class ExactFloats {
     unsigned own;
 };
 
-// Elements that lie side by side: a pointer and a size, or anything with data() and size(), such as std::vector,
-// std::array and std::span.
+// Contiguous elements: a pointer and a size, or anything with data() and size(), such as std::vector, std::array and
+// std::span.
 template <class T>
 class View {
   public:
     constexpr View() noexcept = default;
-    constexpr View(T *data, std::size_t size) noexcept : first(data), count(size) {}
+
+    // The pointer's type is deduced, so that {0, n}, which looks like two numbers, is not taken for a null pointer.
+    template <class U, class = std::enable_if_t<std::is_convertible_v<U (*)[], T (*)[]>>>
+    constexpr View(U *data, std::size_t size) noexcept : first(data), count(size) {}
 
     template <std::size_t size>
     constexpr View(T (&elements)[size]) noexcept : first(elements), count(size) {}
@@ -316,7 +340,8 @@ class Model {
     Floats parameters() const noexcept { return numbers; }
     View<float> parameters() noexcept { return numbers; }
 
-    // Predicts every row into outputs, rows * output width of them.
+    // Predicts every row into outputs, rows * output width of them. Inputs that are not whole rows are refused with
+    // input_width, even where the library finds output_length first; then no output is written.
     Outcome predict(Floats inputs, View<float> outputs, Work &work) const noexcept {
         const ExactFloats exact;
         Outcome outcome;
@@ -325,10 +350,13 @@ class Model {
                                             work.first.data(), work.first.size(), work.second.data(),
                                             work.second.size(), outputs.data(), outputs.size(), &outcome.carried)};
         outcome.carries_row = names_row(outcome.reason);
+        if (outcome.reason == Reason::output_length)
+            explain_lengths(outcome, inputs.size());
         return outcome;
     }
 
-    // The mean squared error over all rows and outputs.
+    // The mean squared error over all rows and outputs. A batch that is not whole rows is refused with input_width or
+    // target_width, even where the library finds row_counts_differ first; so it is in train().
     Result<float> loss(Floats inputs, Floats targets, Work &work) const noexcept {
         const ExactFloats exact;
         float error = 0.0f;
@@ -337,10 +365,12 @@ class Model {
                                          numbers.data(), numbers.size(), inputs.data(), inputs.size(), targets.data(),
                                          targets.size(), work.first.data(), work.first.size(), work.second.data(),
                                          work.second.size(), &error, &outcome.carried)};
+        if (outcome.reason == Reason::row_counts_differ)
+            outcome.reason = short_row_or(outcome.reason, inputs.size(), targets.size());
         return outcome ? Result<float>(error) : outcome;
     }
 
-    // So many steps of gradient descent on the batch.
+    // This many steps of gradient descent on the batch.
     Training train(Floats inputs, Floats targets, std::size_t steps, float rate, Work &work) {
         const ExactFloats exact;
         work.gradients.resize(larger(work.gradients.size(), counts.parameters));
@@ -351,6 +381,8 @@ class Model {
                              numbers.data(), numbers.size(), inputs.data(), inputs.size(), targets.data(),
                              targets.size(), steps, rate, work.gradients.data(), work.gradients.size(),
                              work.nodes.data(), work.nodes.size(), &training.done, &training.outcome.carried)};
+        if (training.outcome.reason == Reason::row_counts_differ)
+            training.outcome.reason = short_row_or(training.outcome.reason, inputs.size(), targets.size());
         return training;
     }
 
@@ -375,6 +407,26 @@ class Model {
         return reason == Reason::input_width || reason == Reason::input_not_finite || reason == Reason::node_not_finite;
     }
 
+    // A wrong number of outputs is often the consequence of inputs that are not whole rows: then the short row is
+    // named. Else the outcome says how many rows the inputs are.
+    void explain_lengths(Outcome &outcome, std::size_t inputs) const noexcept {
+        const std::size_t rows = inputs / input_width();
+        if (inputs % input_width() == 0) {
+            outcome.batch = BatchShape{rows, input_width(), output_width()};
+            return;
+        }
+        outcome.reason = Reason::input_width;
+        outcome.carried = rows;
+        outcome.carries_row = true;
+    }
+
+    // The same of differing row counts. No row is named: loss and training name none.
+    Reason short_row_or(Reason other, std::size_t inputs, std::size_t targets) const noexcept {
+        if (inputs % input_width() != 0)
+            return Reason::input_width;
+        return targets % output_width() != 0 ? Reason::target_width : other;
+    }
+
     static std::size_t larger(std::size_t a, std::size_t b) noexcept { return a < b ? b : a; }
 
     Config shape;
@@ -384,31 +436,98 @@ class Model {
 
 inline Work::Work(const Model &model) : first(model.sizes().widest), second(model.sizes().widest) {}
 
-// Bytes to and from a file, for convenience. These are no calls of the library: they know no refusals.
+// Bytes to and from a file, for convenience. These are no calls of the library, and their failures are no refusals.
 
-[[nodiscard]] inline bool write_file(const char *path, Bytes bytes) {
-    std::FILE *file = std::fopen(path, "wb");
-    if (!file)
-        return false;
-    const bool written = std::fwrite(bytes.data(), 1, bytes.size(), file) == bytes.size();
-    return std::fclose(file) == 0 && written;
+// Whether a file was read or written; if not, what was tried, and the system's error number (errno).
+struct [[nodiscard]] FileOutcome {
+    int error = 0;
+    std::string tried;
+
+    explicit operator bool() const noexcept { return error == 0; }
+
+    // For people: "could not read model.kan: No such file or directory".
+    std::string message() const { return error == 0 ? "done" : tried + ": " + std::generic_category().message(error); }
+};
+
+namespace detail {
+
+struct Close {
+    void operator()(std::FILE *file) const noexcept { std::fclose(file); }
+};
+using File = std::unique_ptr<std::FILE, Close>;
+
+inline int last_error() noexcept { return errno != 0 ? errno : EIO; }
+
+// Creates a file beside another, under a name that no file has. None, and errno, where that cannot be done.
+inline File create_beside(const char *path, std::string &name) {
+    for (unsigned attempt = 0; attempt < 1000; ++attempt) {
+        name = std::string(path) + "." + std::to_string(getpid()) + "-" + std::to_string(attempt) + ".new";
+        File file(std::fopen(name.c_str(), "wbxe"));
+        if (file || errno != EEXIST)
+            return file;
+    }
+    return nullptr;
 }
 
-inline std::optional<std::vector<std::uint8_t>> read_file(const char *path) {
-    std::FILE *file = std::fopen(path, "rb");
+// Writes all bytes and waits until the disk has them. The error, 0 where there is none.
+inline int fill(File file, Bytes bytes) {
+    errno = 0;
+    const std::size_t written = bytes.size() == 0 ? 0 : std::fwrite(bytes.data(), 1, bytes.size(), file.get());
+    if (written != bytes.size() || std::fflush(file.get()) != 0 || fsync(fileno(file.get())) != 0)
+        return last_error();
+    return std::fclose(file.release()) == 0 ? 0 : last_error();
+}
+
+// What stands at a path and is no regular file is not to be replaced: a folder, a device.
+inline int unfit(const char *path) noexcept {
+    struct stat present;
+    if (stat(path, &present) != 0 || S_ISREG(present.st_mode))
+        return 0;
+    return S_ISDIR(present.st_mode) ? EISDIR : EINVAL;
+}
+
+} // namespace detail
+
+// Replaces a file as a whole: the bytes go to a new file beside it (PATH.PROCESS-NUMBER.new), which takes its name once
+// it is on the disk. Who reads at the same time, or after a crash, finds the old bytes or the new ones, never a part;
+// after a failure the old file is as it was. Permissions are those of a new file; a symbolic link is itself replaced.
+inline FileOutcome write_file(const char *path, Bytes bytes) {
+    const auto outcome = [path](int error) {
+        return error == 0 ? FileOutcome{} : FileOutcome{error, std::string("could not write ") + path};
+    };
+    if (const int error = detail::unfit(path))
+        return outcome(error);
+    std::string name;
+    detail::File file = detail::create_beside(path, name);
     if (!file)
-        return std::nullopt;
+        return outcome(detail::last_error());
+    int error = detail::fill(std::move(file), bytes);
+    if (error == 0 && std::rename(name.c_str(), path) != 0)
+        error = detail::last_error();
+    if (error != 0)
+        std::remove(name.c_str());
+    return outcome(error);
+}
+
+using FileBytes = Result<std::vector<std::uint8_t>, FileOutcome>;
+
+// All bytes of a file; of one that is longer than any image, enough for its refusal.
+inline FileBytes read_file(const char *path) {
+    const auto failed = [path] { return FileOutcome{detail::last_error(), std::string("could not read ") + path}; };
+    const detail::File file(std::fopen(path, "rbe"));
+    if (!file)
+        return failed();
     std::vector<std::uint8_t> bytes;
     std::uint8_t part[4096];
     std::size_t taken = 1;
-    // Of a file that is longer than any image, enough is read for its refusal.
+    errno = 0;
     while (taken > 0 && bytes.size() <= longest_image) {
-        taken = std::fread(part, 1, sizeof part, file);
+        taken = std::fread(part, 1, sizeof part, file.get());
         bytes.insert(bytes.end(), part, part + taken);
     }
-    const bool failed = std::ferror(file) != 0;
-    std::fclose(file);
-    return failed ? std::nullopt : std::optional<std::vector<std::uint8_t>>(std::move(bytes));
+    if (std::ferror(file.get()))
+        return failed();
+    return FileBytes(std::move(bytes));
 }
 
 } // namespace estimator

@@ -7,6 +7,7 @@
 #include <cstdio>
 #include <cstdlib>
 #include <cstring>
+#include <numeric>
 
 #include "guarded.hpp"
 #include "reader.hpp"
@@ -25,7 +26,7 @@ void print_answers() {
     for (size_t number = 0; number < answers.size(); ++number)
         if (answers[number] > 0)
             std::fprintf(stderr, " %zu:%lu", number, answers[number]);
-    std::fprintf(stderr, "\n");
+    std::fprintf(stderr, ", in all: %lu\n", std::accumulate(answers.begin(), answers.end(), 0ul));
 }
 
 void demand(bool agrees, const char *what) {

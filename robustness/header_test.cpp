@@ -1,15 +1,22 @@
 // Tries estimator.hpp: each refusal with its number and message, values as values, no allocation where none is
-// promised, and threads that share a model. Run plainly, under the sanitizers and under valgrind (run.sh).
+// promised, threads that share a model, unusual float settings, and files. Run plainly, under the sanitizers and under
+// valgrind (run.sh).
 #include <estimator.hpp>
 
 #include <array>
 #include <atomic>
 #include <cmath>
+#include <csignal>
 #include <cstdio>
 #include <cstdlib>
 #include <cstring>
+#include <fcntl.h>
+#include <fenv.h>
+#include <filesystem>
 #include <limits>
 #include <new>
+#include <sys/resource.h>
+#include <sys/wait.h>
 #include <thread>
 #if __cplusplus >= 202002L
 #include <span>
@@ -73,7 +80,8 @@ void predictions() {
     Work work(model);
     Numbers outputs(2, 5.0f);
     expect(static_cast<bool>(model.predict({}, {}, work)), "no rows");
-    expect_refused(model.predict(Numbers{0}, outputs, work), 10, 0, "refused 10: output or map length wrong");
+    expect_refused(model.predict(Numbers{0}, outputs, work), 10, 0,
+                   "refused 10: output or map length wrong (1 x 1 inputs need 1 x 1 outputs)");
     expect_refused(model.predict(Numbers{0, NAN}, outputs, work), 15, 1, "refused 15: input not finite (row 1)");
     expect(outputs[0] == 0.0f && outputs[1] == 5.0f, "the row before the refused one is written");
     expect_refused(edge(3e38f).predict(Numbers{100, 0}, outputs, work), 20, 0,
@@ -85,6 +93,28 @@ void predictions() {
                    "refused 14: input row of wrong width (row 1)");
     model.parameters().data()[6] = infinite;
     expect_refused(model.predict(Numbers{0, 0}, outputs, work), 11, 0, "refused 11: a parameter not finite");
+}
+
+// Batches that were made for a network of another width: the library would call them 10 and 12.
+void widths() {
+    const Model model = Model::initialise({{3, 2}, 2}, 7).value();
+    Model trained = model;
+    Work work(model);
+    Numbers outputs(6, 5.0f);
+    expect_refused(model.predict(Numbers(4), {outputs.data(), 2}, work), 14, 1,
+                   "refused 14: input row of wrong width (row 1)");
+    expect(outputs[0] == 5.0f, "no output of a batch of wrong width is written");
+    expect_refused(model.predict(Numbers(6), outputs, work), 10, 0,
+                   "refused 10: output or map length wrong (2 x 3 inputs need 2 x 2 outputs)");
+    expect_refused(model.predict({}, outputs, work), 10, 0,
+                   "refused 10: output or map length wrong (0 x 3 inputs need 0 x 2 outputs)");
+    const auto refused = [&](std::size_t inputs, std::size_t targets, unsigned number, const char *message) {
+        expect_refused(model.loss(Numbers(inputs), Numbers(targets), work).outcome(), number, 0, message);
+        expect_refused(trained.train(Numbers(inputs), Numbers(targets), 1, 0.1f, work).outcome, number, 0, message);
+    };
+    refused(4, 2, 14, "refused 14: input row of wrong width");
+    refused(6, 1, 16, "refused 16: target row of wrong width");
+    refused(6, 2, 12, "refused 12: row counts differ");
 }
 
 void losses() {
@@ -208,7 +238,133 @@ void float_settings() {
     expect((after & ~0x3fu) == (unusual & ~0x3fu), "the thread's settings are back");
 }
 
-// Everything that a batch may be lent as.
+// Under traps for everything that a float can do: what each call answers, and its bits.
+std::vector<std::uint8_t> all_calls(Outcome &overflow) {
+    const Numbers inputs(30, 0.3f), targets(10, 0.7f);
+    Numbers outputs(10);
+    Model model = Model::initialise({{3, 4, 1}, 5}, 1).value(), steep = edge(3e38f);
+    Work work(model);
+    std::vector<std::uint8_t> bytes;
+    const bool accepted = model.train(inputs, targets, 5, 0.1f, work) && model.predict(inputs, outputs, work) &&
+                          model.loss(inputs, targets, work) && model.visits(inputs, work);
+    overflow = steep.predict(Numbers{100}, {outputs.data(), 1}, work);
+    return accepted ? Model::from_image(model.image().value()).value().image().value() : bytes;
+}
+
+// Whether a bare call under the same traps ends in SIGFPE, which shows that the traps are set.
+bool bare_call_traps() {
+    const pid_t child = fork();
+    if (child == 0) {
+        std::signal(SIGFPE, [](int) { _exit(42); });
+        const std::size_t widths[] = {1, 1};
+        std::size_t parameters = 0, carried = 0;
+        feenableexcept(FE_ALL_EXCEPT);
+        (void)kan_check(widths, 2, 3, 0.0f, 1.0f, &parameters, &carried); // 1 / 3 is inexact
+        _exit(0);
+    }
+    int status = 0;
+    return waitpid(child, &status, 0) == child && WIFEXITED(status) && WEXITSTATUS(status) == 42;
+}
+
+void float_traps() {
+    Outcome usual_overflow, overflow;
+    const std::vector<std::uint8_t> usual = all_calls(usual_overflow);
+    feenableexcept(FE_ALL_EXCEPT);
+    const std::vector<std::uint8_t> trapped = all_calls(overflow);
+    const int after = fegetexcept();
+    fedisableexcept(FE_ALL_EXCEPT);
+    expect(bare_call_traps(), "a bare call under traps ends in SIGFPE");
+    expect(!usual.empty() && trapped == usual, "all calls under traps have the same bits");
+    expect_refused(overflow, 20, 0, "refused 20: a node value not finite (row 0)");
+    expect(after == FE_ALL_EXCEPT, "the thread's traps are back");
+}
+
+// A folder of its own under TMPDIR, removed at the end.
+struct Folder {
+    Folder() {
+        std::string pattern = (std::filesystem::temp_directory_path() / "estimator-XXXXXX").string();
+        if (!mkdtemp(pattern.data()))
+            std::abort();
+        path = pattern;
+    }
+    ~Folder() { std::filesystem::remove_all(path); }
+    std::string file(const char *name) const { return (path / name).string(); }
+    long entries() const {
+        return std::distance(std::filesystem::directory_iterator(path), std::filesystem::directory_iterator());
+    }
+
+    std::filesystem::path path;
+};
+
+using ByteList = std::vector<std::uint8_t>;
+
+void files() {
+    const Folder folder;
+    const std::string path = folder.file("model.kan"), other = folder.file("other"), missing = folder.file("missing");
+    const ByteList old_bytes(100, 1), new_bytes(20000, 2);
+    expect(write_file(path.c_str(), old_bytes) && read_file(path.c_str()).value() == old_bytes, "written and read");
+    expect(write_file(other.c_str(), {}) && read_file(other.c_str()).value().empty(), "an empty file");
+
+    const FileBytes none = read_file(missing.c_str());
+    expect(!none && none.outcome().error == ENOENT &&
+               none.outcome().message() == "could not read " + missing + ": No such file or directory",
+           "a missing file, got " + none.outcome().message());
+    expect(read_file(folder.path.c_str()).outcome().error == EISDIR, "a folder is not read");
+    expect(write_file(folder.path.c_str(), old_bytes).error == EISDIR, "a folder is not replaced");
+    expect(write_file("/dev/null", old_bytes).error == EINVAL && std::filesystem::is_character_file("/dev/null"),
+           "a device is not replaced");
+    expect(write_file(folder.file("none/model").c_str(), old_bytes).message() ==
+               "could not write " + folder.file("none/model") + ": No such file or directory",
+           "no folder to write to");
+
+    // A second name of the old file keeps the old bytes: it was replaced, not written over.
+    std::filesystem::remove(other);
+    std::filesystem::create_hard_link(path, other);
+    expect(write_file(path.c_str(), new_bytes) && read_file(path.c_str()).value() == new_bytes &&
+               read_file(other.c_str()).value() == old_bytes,
+           "a file is replaced as a whole");
+    expect(folder.entries() == 2, "no file is left over");
+}
+
+// A disk that is full, by a limit on what a file may hold: the old file stays, and nothing else.
+void full_disk() {
+    const Folder folder;
+    const std::string path = folder.file("model.kan");
+    const ByteList old_bytes(100, 1), new_bytes(20000, 2);
+    expect(static_cast<bool>(write_file(path.c_str(), old_bytes)), "written before the disk is full");
+    rlimit usual, small{4096, 0};
+    getrlimit(RLIMIT_FSIZE, &usual);
+    small.rlim_max = usual.rlim_max;
+    std::signal(SIGXFSZ, SIG_IGN);
+    setrlimit(RLIMIT_FSIZE, &small);
+    const FileOutcome outcome = write_file(path.c_str(), new_bytes);
+    setrlimit(RLIMIT_FSIZE, &usual);
+    expect(outcome.error == EFBIG, "a full disk, got " + outcome.message());
+    expect(read_file(path.c_str()).value() == old_bytes, "the old file is as it was");
+    expect(folder.entries() == 1, "no part of the new one is left");
+}
+
+// Whether value() of what is not there ends the program with the message, and throws nothing.
+void no_value() {
+    const Folder folder;
+    const std::string path = folder.file("missing"), log = folder.file("log");
+    const pid_t child = fork();
+    if (child == 0) {
+        const rlimit none{0, 0};
+        setrlimit(RLIMIT_CORE, &none);
+        if (dup2(open(log.c_str(), O_WRONLY | O_CREAT, 0600), STDERR_FILENO) == STDERR_FILENO)
+            (void)read_file(path.c_str()).value();
+        _exit(0);
+    }
+    int status = 0;
+    const bool aborted = waitpid(child, &status, 0) == child && WIFSIGNALED(status) && WTERMSIG(status) == SIGABRT;
+    const ByteList bytes = read_file(log.c_str()).value();
+    const std::string said(bytes.begin(), bytes.end());
+    const std::string expected = "estimator: no value, could not read " + path + ": No such file or directory\n";
+    expect(aborted && said == expected, "value() of a missing file, got " + said);
+}
+
+// Everything that a batch may be given as.
 void views() {
     const Model model = edge(1.0f);
     Work work(model);
@@ -238,17 +394,23 @@ void views() {
 
 // `header_test emulated`: on an emulated processor that knows no float settings, as valgrind's.
 int main(int count, char **) {
+    no_value(); // before there are threads, whose memory valgrind would miss in the process that ends here
     configurations();
     predictions();
+    widths();
     losses();
     trainings();
     maps();
     images();
     allocation();
     threads();
-    if (count == 1)
+    if (count == 1) {
         float_settings();
+        float_traps();
+    }
     views();
+    files();
+    full_disk();
     std::printf("estimator.hpp: %d tried, %d failed\n", tried, failed);
     return failed == 0 ? 0 : 1;
 }

@@ -1,5 +1,5 @@
-// An image reader of its own, written from document 01's words alone and sharing no line with the library: what the
-// fuzzer compares kan_image_read and kan_image_unpack with.
+// An image reader of its own, written from docs/RULES.md (R13.3, R3.4) alone and sharing no line with the library: what
+// the fuzzer compares kan_image_read and kan_image_unpack with.
 #ifndef READER_HPP
 #define READER_HPP
 
@@ -39,7 +39,7 @@ inline float number(uint32_t bits) {
     return x;
 }
 
-// "`InvalidDomain` conditions of 000"
+// The domain test (R4.4)
 inline bool domain_is_sound(size_t g, float lo, float hi) {
     if (!std::isfinite(lo) || !std::isfinite(hi) || lo >= hi)
         return false;
@@ -49,8 +49,7 @@ inline bool domain_is_sound(size_t g, float lo, float hi) {
            below < lo && above > hi;
 }
 
-// "Configuration: 1 to 7 in order with domain [-1, 1], where 5 and 6 are taken layer by layer, 5 first; then the given
-// domain (only 4 is possible)." The answer's number, what it carries, and P where it is accepted.
+// The configuration's checks (R3.4, R4.1 to R4.8): the answer's number, what it carries, and P where it is accepted.
 struct Configured {
     uint32_t number;
     size_t carried;
@@ -87,8 +86,7 @@ inline Configured configure(const std::vector<size_t> &widths, size_t g, float l
     return {0, 0, static_cast<size_t>(total)};
 }
 
-// "Checks: 24; shorter than 32 gives 27; 25; 26; widths' distance wrong or too long, 27; configuration; length or first
-// distance wrong, 27; 11."
+// The reader's checks in their order (R13.3).
 inline Answer read(const uint8_t *image, size_t length) {
     if (length > 8388608)
         return refuse(24);

@@ -1,6 +1,7 @@
 #!/usr/bin/env bash
 # The C++ side beyond its tests: header_test plainly, under sanitizers, under valgrind's memory and thread checkers; the
-# example under sanitizers; a fuzzer of the image reader and one of prediction and training. `make robustness` runs it.
+# example under sanitizers; a fuzzer of the image reader and one of prediction and training. `make robustness` runs it,
+# over the archive that is installed, target/lib/libestimator.a.
 # FUZZ_SECONDS: how long each fuzzer runs (default 60). Sanitizers see the C++ code alone; valgrind sees the library too, and
 # the fuzzers lend it memory that ends at a closed page. What guides them is the coverage of what they compare it with.
 set -euo pipefail
@@ -8,7 +9,8 @@ cd "$(dirname "$0")/.."
 
 scripts/need.sh g++=g++ clang++=clang valgrind=valgrind
 scripts/need.sh "/usr/lib/llvm-*/lib/clang/*/lib/linux/libclang_rt.fuzzer-*.a=libclang-rt-$(clang -dumpversion | cut -d. -f1)-dev"
-archive=${ESTIMATOR_LIB:-target/staticlib}/libestimator.a
+archive=target/lib/libestimator.a
+[ -f $archive ] || { echo "no $archive: make archive writes it" >&2; exit 3; }
 out=target/robustness
 mkdir -p $out
 warnings=(-Wall -Wextra -Wpedantic -Wshadow -Werror -g -O1 -Iinclude)
@@ -45,6 +47,10 @@ fuzz() {
     "$out/$1" -max_len=2048 -use_value_profile=1 -max_total_time="${FUZZ_SECONDS:-60}" -artifact_prefix=$out/ "$2" \
         >"$log" 2>&1 || { tail -n 40 "$log"; exit 1; }
     grep -E '^(Done|answers)' "$log"
+    # Every run is accounted for.
+    local runs
+    runs=$(sed -n 's/^Done \([0-9]*\) runs.*/\1/p' "$log")
+    ! grep '^answers' "$log" | grep -v "in all: $runs\$" || { echo "$1: the answers do not add up to $runs runs"; exit 1; }
 }
 
 build seeds g++ -std=c++17 robustness/seeds.cpp

@@ -12,8 +12,8 @@ int main(int count, char **arguments) {
     for (const estimator::Config &config : configs) {
         const auto image = estimator::Model::initialise(config, 7).value().image().value();
         const std::string path = std::string(count == 2 ? arguments[1] : ".") + "/seed-" + std::to_string(number++);
-        if (!estimator::write_file(path.c_str(), image)) {
-            std::fprintf(stderr, "could not write %s\n", path.c_str());
+        if (const estimator::FileOutcome written = estimator::write_file(path.c_str(), image); !written) {
+            std::fprintf(stderr, "%s\n", written.message().c_str());
             return 1;
         }
     }

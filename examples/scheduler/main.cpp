@@ -22,8 +22,8 @@ constexpr float longest = 32.0f; // seconds that count as 1
     std::exit(1);
 }
 
-template <class T>
-T value(estimator::Result<T> result, const char *doing) {
+template <class T, class Why>
+T value(estimator::Result<T, Why> result, const char *doing) {
     if (!result)
         stop(std::string(doing) + ": " + result.outcome().message());
     return *std::move(result);
@@ -33,7 +33,8 @@ struct Batch {
     std::vector<float> inputs, targets;
 };
 
-// Features between 0 and 1, each by one exact division: no logarithm, whose bits differ between machines.
+// Features between 0 and 1. Every divisor is a power of two: such a division is exact, so no compiler or option can
+// give it other bits. A logarithm's last bit differs between machines.
 Batch batch_of(const std::vector<SourceFile> &files) {
     Batch batch;
     for (const SourceFile &file : files) {
@@ -90,13 +91,11 @@ int main(int count, char **arguments) {
 
     std::printf("learning from %zu files\n", files.size());
     const std::vector<std::uint8_t> image = learn(batch, true);
-    if (!estimator::write_file(arguments[2], image))
-        stop(std::string("could not write ") + arguments[2]);
+    if (const estimator::FileOutcome written = estimator::write_file(arguments[2], image); !written)
+        stop(written.message());
 
-    const auto stored = estimator::read_file(arguments[2]);
-    if (!stored)
-        stop(std::string("could not read ") + arguments[2]);
-    const Model model = value(Model::from_image(*stored), "load");
+    const std::vector<std::uint8_t> stored = value(estimator::read_file(arguments[2]), "load");
+    const Model model = value(Model::from_image(stored), "load");
     Work work(model);
     std::vector<float> predicted(files.size());
     if (const estimator::Outcome outcome = model.predict(batch.inputs, predicted, work); !outcome)

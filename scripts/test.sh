@@ -8,6 +8,8 @@ log=$(mktemp)
 trap 'rm -f "$log"' EXIT
 # rt waits for a whole batch of proofs before it starts the next: eight at a time keep two processors busy (11 GB at most)
 export RT_JOBS=${RT_JOBS:-8}
+scripts/facts.sh
+scripts/cited.sh
 rt fmt --check
 rt ci | tee "$log"
 oracle/quick.sh

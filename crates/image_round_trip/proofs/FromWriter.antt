@@ -32,7 +32,7 @@ use Rattle.image_reading.proofs.Passed.{PastEleven, sound-all}
 use Rattle.image_writing.specs.Writing.{imageOf, writeFault}
 use Rattle.image_writing.specs.Steps.{InWords}
 use Rattle.image_writing.proofs.Placed.{in-words}
-use Rattle.image_round_trip.specs.RoundTrip.{Held, descriptionOf, ReadBack}
+use Rattle.image_round_trip.specs.RoundTrip.{Held, descriptionFor, ReadBack}
 
 -- the trailer as it is meant
 abbrev ownTrailer : List ℕ → Grid → List Float → Trailer
@@ -150,7 +150,7 @@ module _ (ws : List ℕ) (g : Grid) (ps : List Float) (held : Held g ps) (w : In
       }
 
   describe-back : Past8 ws g (length ps) → configFault ws g ≡ 0 → allFinite ps ≡ true
-      → describeOf (imageOf ws g ps) ≡ Sound (descriptionOf ws g ps)
+      → describeOf (imageOf ws g ps) ≡ Sound (descriptionFor ws g ps)
   unfolding describeOf
   describe-back p c f =
       let bs = imageOf ws g ps in

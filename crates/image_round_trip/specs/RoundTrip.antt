@@ -21,14 +21,14 @@ pub record Held (g : Grid) (ps : List Float) : Type 0 where
   pub parameters : (i : ℕ) → i < length ps → T (fits binary32 (at ps i))
 
 -- R13.5: what a description says of widths, a grid and parameters
-abbrev pub descriptionOf : List ℕ → Grid → List Float → Description
-descriptionOf ws g ps = record { grid = g; widths = length ws; parameters = length ps }
+abbrev pub descriptionFor : List ℕ → Grid → List Float → Description
+descriptionFor ws g ps = record { grid = g; widths = length ws; parameters = length ps }
 
 -- R17.3: the reader accepts the image of widths, a grid and parameters, and finds them in it
 pub record ReadBack (ws : List ℕ) (g : Grid) (ps : List Float) : Type 0 where
-  pub description : describeOf (imageOf ws g ps) ≡ Sound (descriptionOf ws g ps)
-  pub widths : widthsOf (imageOf ws g ps) (descriptionOf ws g ps) ≡ ws
-  pub parameters : parametersOf (imageOf ws g ps) (descriptionOf ws g ps) ≡ ps
+  pub description : describeOf (imageOf ws g ps) ≡ Sound (descriptionFor ws g ps)
+  pub widths : widthsOf (imageOf ws g ps) (descriptionFor ws g ps) ≡ ws
+  pub parameters : parametersOf (imageOf ws g ps) (descriptionFor ws g ps) ≡ ps
 
 -- R17.3: the writer accepts what an image describes, in a slice of its length, and writes that image
 abbrev pub gridDescribed : List ℕ → Grid

@@ -29,9 +29,9 @@ module _ (ws : List ℕ) (g : Grid) (ps : List Float) (bs : List ℕ) where
   unfolding writeFault
   stops-at-8 some = then-first (upTo8 ws g (length ps)) _ some
 
-  pub unadmitted : (r : Refusal) → checkedOf (upTo8 ws g (length ps)) (sizesOf ws g) ≡ Refused r
+  pub refused-to-8 : (r : Refusal) → checkedOf (upTo8 ws g (length ps)) (sizesOf ws g) ≡ Refused r
       → ImageWritten ws g ps bs (Undone r) bs
-  unadmitted r e =
+  refused-to-8 r e =
       let j = rejected (upTo8 ws g (length ps)) (sizesOf ws g) r e in
       let last = stops-at-8 (j .stopped) in
       record { answer = rw (← last) (j .outcome); image = rw (← last) (sym (past-stopped _ _ bs (j .stopped))) }

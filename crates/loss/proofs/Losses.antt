@@ -18,7 +18,7 @@ use Rattle.layers.specs.Widths.{inputWidth, outputWidth}
 use Rattle.batches.specs.Batch.{batchFault}
 use Rattle.batches.specs.Sound.{SoundBatch}
 use Rattle.passes.specs.Pass.{rowsOf, from11To18}
-use Rattle.passes.proofs.Admitted.{Admitted, swept-end}
+use Rattle.passes.proofs.Past9.{SoundPast9, swept-end}
 use Rattle.config.specs.declared.Sizes.{Sizes}
 use Rattle.config.specs.Config.{carriedBy, sizesOf}
 use Rattle.config.proofs.Answers.{Rejected}
@@ -97,7 +97,7 @@ module _ {N : Net} {ws : List ℕ} {g : Grid} {ps xs ts a b : List Float} where
       early (suc n) m k s r mean q = ap (λ (o : Outcome). told o mean) (q .outcome)
 
   pub loss-done : {s : Sizes} {r : Loss} (a₁ b₁ : List Float) {a₂ b₂ : List Float}
-      → Admitted ws g (length ps) (length a) (length b) s → LossPast9 N ps ws xs ts a b r a₁ b₁
+      → SoundPast9 ws g (length ps) (length a) (length b) s → LossPast9 N ps ws xs ts a b r a₁ b₁
       → a₂ ≡ zeros (s .widest) ++ drop (s .widest) a₁ → b₂ ≡ zeros (s .widest) ++ drop (s .widest) b₁
       → Lost N ws g ps xs ts a b r a₂ b₂
   loss-done a₁ b₁ k d p q = record {

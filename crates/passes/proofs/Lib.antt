@@ -2,4 +2,4 @@ pub mod Passes
 pub mod Walks
 pub mod Rows
 pub mod EachRow
-pub mod Admitted
+pub mod Past9

@@ -21,7 +21,7 @@ use Rattle.config.specs.declared.Sizes.{Sizes}
 use Rattle.config.specs.Config.{carriedBy, rowCarried, sizesOf}
 use Rattle.config.proofs.Answers.{Rejected}
 use Rattle.admission.specs.Admission.{upTo9}
-use Rattle.passes.proofs.Admitted.{Admitted, swept-end}
+use Rattle.passes.proofs.Past9.{SoundPast9, swept-end}
 use Rattle.prediction.specs.Predict.{outputsFit, from10To11, Predicted}
 use Rattle.prediction.specs.Steps.{RowsPredicted}
 
@@ -79,7 +79,7 @@ module _ {N : Net} {ws : List ℕ} {g : Grid} {ps xs a b ys : List Float} where
       }
 
   pub predict-done : {s : Sizes} {r : Outcome} (a₁ b₁ : List Float) {a₂ b₂ ys' : List Float}
-      → Admitted ws g (length ps) (length a) (length b) s
+      → SoundPast9 ws g (length ps) (length a) (length b) s
       → RowsPredicted N ps ws xs (to11 ps ws xs ys) (parametersIn (g .intervals + 5) ws) a b ys r a₁ b₁ ys'
       → a₂ ≡ zeros (s .widest) ++ drop (s .widest) a₁ → b₂ ≡ zeros (s .widest) ++ drop (s .widest) b₁
       → Predicted N ws g ps xs a b ys r a₂ b₂ ys'

@@ -23,7 +23,7 @@ use Rattle.batches.proofs.Rows.{batch-sound}
 use Rattle.config.specs.Config.{carriedBy}
 use Rattle.admission.specs.Admission.{upTo9InTraining, swept}
 use Rattle.admission.proofs.Passed.{Past9InTraining, past9-in-training, swept-past}
-use Rattle.passes.proofs.Admitted.{walkable}
+use Rattle.passes.proofs.Past9.{walkable}
 use Rattle.training_step.specs.Stages.{TrainingRoom, Rests}
 use Rattle.training.specs.declared.calls.Stop.{Stop}
 use Rattle.training.specs.declared.calls.Training.{Training}

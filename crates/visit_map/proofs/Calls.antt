@@ -24,7 +24,7 @@ use Rattle.admission.specs.Admission.{upTo9}
 use Rattle.admission.proofs.Passed.{Past9, past9}
 use Rattle.passes.specs.Pass.{rowsOf, refusalAt}
 use Rattle.passes.specs.Turns.{Past}
-use Rattle.passes.proofs.Admitted.{Admitted, swept-end}
+use Rattle.passes.proofs.Past9.{SoundPast9, swept-end}
 use Rattle.touched_layer.specs.Touched.{blank}
 use Rattle.visit_map.specs.Visits.{marksOf, mapUpTo11, visitRefusal, visitCarried, visitMarks, Visited}
 use Rattle.visit_map.specs.Steps.{Unswept}
@@ -173,7 +173,7 @@ module _ (N : Net) (ws : List ℕ) (g : Grid) (ps xs a b : List Float) (ms : Lis
       }
 
   pub swept-after : {s : Sizes} {r : Outcome} (a₁ b₁ : List Float) {a₂ b₂ : List Float} {ms' : List ℕ}
-      → Admitted ws g (length ps) (length a) (length b) s → Unswept N ws g ps xs a b ms r a₁ b₁ ms'
+      → SoundPast9 ws g (length ps) (length a) (length b) s → Unswept N ws g ps xs a b ms r a₁ b₁ ms'
       → a₂ ≡ zeros (s .widest) ++ drop (s .widest) a₁ → b₂ ≡ zeros (s .widest) ++ drop (s .widest) b₁
       → Visited N ws g ps xs a b ms r a₂ b₂ ms'
   swept-after a₁ b₁ k d p q = record {

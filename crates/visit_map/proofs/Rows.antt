@@ -19,7 +19,7 @@ use Rattle.refusals.proofs.Firsts.{first-none, first-more}
 use Rattle.batches.specs.Batch.{rowAt}
 use Rattle.passes.specs.Pass.{rowsOf, refusalAt}
 use Rattle.passes.proofs.Passes.{Kept, kept-all}
-use Rattle.passes.proofs.Admitted.{fitted}
+use Rattle.passes.proofs.Past9.{fitted}
 use Rattle.passes.proofs.EachRow.{AtRow, RanRow, fits-now, finite-all, ran}
 use Rattle.touched_layer.specs.Touched.{blank}
 use Rattle.touched_layer.specs.Marks.{markedBy}

@@ -9,7 +9,7 @@ use Rattle.config.specs.Config.{sizesOf}
 use Rattle.config.proofs.Answers.{Accepted, accepted, rejected}
 use Rattle.admission.specs.Admission.{upTo9}
 use Rattle.admission.proofs.Passed.{Past9, past9}
-use Rattle.passes.proofs.Admitted.{fitted}
+use Rattle.passes.proofs.Past9.{fitted}
 use Rattle.forward.proofs.Passing.{as-wide, not-begun, passed-through, held-back}
 use borrow.Author.Needs.{needs}
 use Rattle.forward.proofs.work.Statement.{statement}
@@ -41,19 +41,19 @@ abbrev back : tie.After-sweep-pass2 → tie.Else1
 back c = c .before .before .before
 
 -- ---- past the checks: nothing is refused, and the sizes are the configuration's
-admitted : (c : tie.After-checked2)
+sound-past9 : (c : tie.After-checked2)
     → Accepted (upTo9 (entry (checking c) .args .widths .now) (entry (checking c) .args .grid) (length (entry (checking c) .args .model .now))
     (length (entry (checking c) .args .first .now)) (length (entry (checking c) .args .second .now)))
     (sizesOf (entry (checking c) .args .widths .now) (entry (checking c) .args .grid)) (c .checked2 .given .0 .0)
-admitted c = accepted _ _ _ (sym (checking c .check-work .ensures) ∙ c .checked2 .given .1)
+sound-past9 c = accepted _ _ _ (sym (checking c .check-work .ensures) ∙ c .checked2 .given .1)
 
 known : (c : tie.After-checked2)
     → Past9 (entry (checking c) .args .widths .now) (entry (checking c) .args .grid) (length (entry (checking c) .args .model .now))
     (length (entry (checking c) .args .first .now)) (length (entry (checking c) .args .second .now))
-known c = past9 _ _ _ _ _ (admitted c .passed)
+known c = past9 _ _ _ _ _ (sound-past9 c .passed)
 
 widest : (c : tie.After-checked2) → widestIn (entry (checking c) .args .widths .now) ≡ c .checked2 .given .0 .0 .widest
-widest c = ap (λ (s : Sizes). s .widest) (admitted c .sizes)
+widest c = ap (λ (s : Sizes). s .widest) (sound-past9 c .sizes)
 
 -- ---- the needs
 check-work-requires : tie.Need-check-work-requires
@@ -97,7 +97,7 @@ returns : tie.Need-returns
 returns c =
     let s = c .before .before .before .before in
     let p = through (taken s) in
-    passed-through _ _ _ _ _ _ _ _ _ _ _ _ (admitted (allowed p) .passed) (p .pass .kept .1 .1 .1 .1 .0)
+    passed-through _ _ _ _ _ _ _ _ _ _ _ _ (sound-past9 (allowed p) .passed) (p .pass .kept .1 .1 .1 .1 .0)
     (p .pass .kept .1 .1 .1 .1 .1 .0) (p .pass .ensures) _ refl (taken s .before .if1 .taken)
     (as-wide (widest (allowed p)) (s .sweep-pass .ensures))
 
@@ -126,7 +126,7 @@ returns-3 : tie.Need-returns-3
 returns-3 c =
     let s = c .before .before .before .before in
     let p = passed (back s .before) in
-    held-back _ _ _ _ _ _ _ _ _ _ _ _ (admitted (allowed p) .passed) (p .pass .kept .1 .1 .1 .1 .0)
+    held-back _ _ _ _ _ _ _ _ _ _ _ _ (sound-past9 (allowed p) .passed) (p .pass .kept .1 .1 .1 .1 .0)
     (p .pass .kept .1 .1 .1 .1 .1 .0) (p .pass .ensures) (back s .if1 .left)
     (as-wide (widest (allowed p)) (s .sweep-pass2 .ensures))
 

@@ -8,7 +8,7 @@ use Rattle.admission.proofs.Passed.{past8}
 use Rattle.image_layout.specs.Trailer.{imageLength}
 use Rattle.image_writing.specs.Steps.{InWords, Writable}
 use Rattle.image_writing.proofs.Placed.{in-words}
-use Rattle.image_writing.proofs.Calls.{passed, unadmitted, wrong-length, unsound, all-written}
+use Rattle.image_writing.proofs.Calls.{passed, refused-to-8, wrong-length, unsound, all-written}
 use borrow.Author.Needs.{needs}
 use Rattle.image_writing.proofs.write.Statement.{statement}
 use Rattle.image_writing.proofs.write.Tie as tie
@@ -97,7 +97,7 @@ put-image-requires c κs = writable (lent c)
 
 returns-3 : tie.Need-returns-3
 returns-3 c =
-    unadmitted _ _ _ _ _ (sym (c .before .before .before .check-model .ensures) ∙ c .before .checked .given .1)
+    refused-to-8 _ _ _ _ _ (sym (c .before .before .before .check-model .ensures) ∙ c .before .checked .given .1)
 
 same-length : tie.Need-same-length
 same-length c = search needs

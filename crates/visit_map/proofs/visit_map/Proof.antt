@@ -4,7 +4,7 @@ use mathlib.Core.Path.{sym, _∙_}
 use native.Mathlib.Omega.{arith}
 use lib.ListN.{length}
 use Rattle.config.proofs.Answers.{rejected}
-use Rattle.passes.proofs.Admitted.{Admitted, admitted, first-room, second-room}
+use Rattle.passes.proofs.Past9.{SoundPast9, sound-past9, first-room, second-room}
 use Rattle.visit_map.proofs.Calls.{not-begun, swept-after}
 use Rattle.visit_map.proofs.visit_map.Statement.{statement}
 use Rattle.visit_map.proofs.visit_map.Tie as tie
@@ -36,10 +36,10 @@ cleared c = c .before .before .before
 
 -- ---- past the checks up to 9
 known : (c : tie.After-checked2)
-    → Admitted (entry (checking c) .args .widths .now) (entry (checking c) .args .grid)
+    → SoundPast9 (entry (checking c) .args .widths .now) (entry (checking c) .args .grid)
     (length (entry (checking c) .args .model .now)) (length (entry (checking c) .args .first .now))
     (length (entry (checking c) .args .second .now)) (c .checked2 .given .0 .0)
-known c = admitted _ _ _ _ _ _ (sym (checking c .check-work .ensures) ∙ c .checked2 .given .1)
+known c = sound-past9 _ _ _ _ _ _ (sym (checking c .check-work .ensures) ∙ c .checked2 .given .1)
 
 -- ---- the needs
 check-work-requires : tie.Need-check-work-requires

@@ -40,24 +40,24 @@ abbrev swept-first : tie.After-clear2 → tie.After-clear
 swept-first c = c .before .before .before .before
 
 -- ---- past the checks: nothing is refused, and the sizes are the configuration's
-admitted : (c : tie.After-checked2)
+past9 : (c : tie.After-checked2)
     → Accepted (upTo9InTraining (entry c .args .widths .now) (entry c .args .grid) (length (entry c .args .model .now))
     (length (entry c .args .gradients .now)) (length (entry c .args .work .now)))
     (sizesOf (entry c .args .widths .now) (entry c .args .grid)) (c .checked2 .given .0 .0)
-admitted c = accepted _ _ _ (sym (checking c .check-training-work .ensures) ∙ c .checked2 .given .1)
+past9 c = accepted _ _ _ (sym (checking c .check-training-work .ensures) ∙ c .checked2 .given .1)
 
 known : (c : tie.After-checked2)
     → Past9InTraining (entry c .args .widths .now) (entry c .args .grid) (length (entry c .args .model .now))
     (length (entry c .args .gradients .now)) (length (entry c .args .work .now))
-known c = past9-in-training _ _ _ _ _ (admitted c .passed)
+known c = past9-in-training _ _ _ _ _ (past9 c .passed)
 
 -- the sizes that were answered are P and 2N
 parameters : (c : tie.After-checked2)
     → parametersIn (entry c .args .grid .intervals + 5) (entry c .args .widths .now) ≡ c .checked2 .given .0 .0 .parameters
-parameters c = ap (λ (s : Sizes). s .parameters) (admitted c .sizes)
+parameters c = ap (λ (s : Sizes). s .parameters) (past9 c .sizes)
 
 nodes : (c : tie.After-checked2) → nodesIn (entry c .args .widths .now) ≡ c .checked2 .given .0 .0 .nodes
-nodes c = ap (λ (s : Sizes). s .nodes) (admitted c .sizes)
+nodes c = ap (λ (s : Sizes). s .nodes) (past9 c .sizes)
 
 -- ---- the needs
 check-training-work-requires : tie.Need-check-training-work-requires
@@ -109,7 +109,7 @@ returns-2 c =
     let g = swept-first w in
     let t = cleared g in
     let k = allowed t in
-    train-done _ _ _ _ _ _ _ _ _ _ _ _ _ _ _ _ (admitted k .passed) (t .train-sound .ensures)
+    train-done _ _ _ _ _ _ _ _ _ _ _ _ _ _ _ _ (past9 k .passed) (t .train-sound .ensures)
     (swept-by _ (parameters k) (g .clear .ensures)) (swept-by _ (ap (λ (n : ℕ). 2 * n) (nodes k)) (w .clear2 .ensures))
 
 pub train-spec : {M : Type 1} → statement M

@@ -46,14 +46,14 @@ sweep ws g n x y a a' a'' e p r =
     swept-past _ _ _ _ e (r ∙ ap (λ (l : List Float). zeros (widestIn ws) ++ l) (p (widestIn ws) within))
 
 -- ---- for a call that matches on the answer of its checks: they let it through, and the answer has the sizes s
-pub record Admitted (ws : List ℕ) (g : Grid) (n a b : ℕ) (s : Sizes) : Type 0 where
+pub record SoundPast9 (ws : List ℕ) (g : Grid) (n a b : ℕ) (s : Sizes) : Type 0 where
   pub passed : upTo9 ws g n a b ≡ 0
   pub checked : Past9 ws g n a b
   pub widest : s .widest ≡ widestIn ws
 
-pub admitted : (ws : List ℕ) (g : Grid) (n a b : ℕ) (s : Sizes)
-    → checkedOf (upTo9 ws g n a b) (sizesOf ws g) ≡ Sound s → Admitted ws g n a b s
-admitted ws g n a b s e =
+pub sound-past9 : (ws : List ℕ) (g : Grid) (n a b : ℕ) (s : Sizes)
+    → checkedOf (upTo9 ws g n a b) (sizesOf ws g) ≡ Sound s → SoundPast9 ws g n a b s
+sound-past9 ws g n a b s e =
     let k = accepted (upTo9 ws g n a b) (sizesOf ws g) s e in
     record {
       passed = k .passed;
@@ -61,7 +61,7 @@ admitted ws g n a b s e =
       widest = ap (λ (z : Sizes). z .widest) (sym (k .sizes));
     }
 
-module _ {ws : List ℕ} {g : Grid} {n a b : ℕ} {s : Sizes} (k : Admitted ws g n a b s) where
+module _ {ws : List ℕ} {g : Grid} {n a b : ℕ} {s : Sizes} (k : SoundPast9 ws g n a b s) where
   -- both slices may be cleared
   pub first-room : s .widest ≤ a
   first-room = le-trans (le-of-eq (k .widest)) (k .checked .first)

@@ -20,8 +20,8 @@ use Rattle.passes.specs.Turns.{holder, Ran}
 use Rattle.passes.proofs.Passes.{outputs-length}
 use Rattle.admission.specs.Admission.{upTo9}
 use Rattle.admission.proofs.Passed.{Past9, past9}
-use Rattle.forward.specs.Forward.{passRefusal, inFirst, fronted, forwardRefusal, forwardPart, forwardFirst, forwardSecond, Forwarded}
-use Rattle.forward.specs.Steps.{Passed, sweptFrom, Swept}
+use Rattle.forward.specs.Forward.{passRefusal, inFirst, fronted, forwardRefusal, forwardPart, forwardFirst, forwardSecond}
+use Rattle.forward.specs.Steps.{Passed, sweptFrom, Swept, Forwarded}
 
 -- ---- 11 and the row
 pub ran-passed : (N : Net) (ps : List Float) (ws : List ℕ) (xs a b a' b' : List Float) (r : ℕ) → allFinite ps ≡ true

@@ -1,6 +1,6 @@
 -- R8.8, R8.9: a single `forward` takes its whole slice as one row (R5.6) and hands back the front of the work slice
 -- that holds the last layer, an empty part on refusal. Definitions only.
-use Prim.Native.Nat.{ℕ, _-_, _%_, _≤_}
+use Prim.Native.Nat.{ℕ, _-_, _%_}
 use mathlib.Core.Path.{_≡_}
 use mathlib.Core.Bool.{Bool, cond, not}
 use mathlib.Core.List.{List, [], _++_}
@@ -29,20 +29,23 @@ fronted front widest s = front ++ (zeros (widest - length front) ++ drop widest 
 
 -- ---- R8.9, R3.6: what a call leaves: the lent number, the part handed back, and both work slices
 module _ (N : Net) (ws : List ℕ) (g : Grid) (ps xs a b : List Float) where
-  abbrev checks : ℕ
-  checks = upTo9 ws g (length ps) (length a) (length b)
+  abbrev to9 : ℕ
+  to9 = upTo9 ws g (length ps) (length a) (length b)
+
+  abbrev refusal : ℕ
+  refusal = to9 then passRefusal N ps ws xs
 
   unfoldable pub forwardRefusal : ℕ
-  forwardRefusal = checks then passRefusal N ps ws xs
+  forwardRefusal = refusal
 
   unfoldable pub forwardPart : List Float
-  forwardPart = past (checks then passRefusal N ps ws xs) (outputsOf N ps ws xs) []
+  forwardPart = past refusal (outputsOf N ps ws xs) []
 
   unfoldable pub forwardFirst : List Float
-  forwardFirst = past checks (fronted (cond (inFirst ws) forwardPart []) (widestIn ws) a) a
+  forwardFirst = past to9 (fronted (cond (inFirst ws) forwardPart []) (widestIn ws) a) a
 
   unfoldable pub forwardSecond : List Float
-  forwardSecond = past checks (fronted (cond (inFirst ws) [] forwardPart) (widestIn ws) b) b
+  forwardSecond = past to9 (fronted (cond (inFirst ws) [] forwardPart) (widestIn ws) b) b
 
 -- R8.9: what the part holds, where it lies, also when it is empty, and the lent number k
 pub record Handed (N : Net) (ws : List ℕ) (g : Grid) (ps xs a b : List Float) (firstPlace secondPlace : ℕ × ℕ)
@@ -50,12 +53,3 @@ pub record Handed (N : Net) (ws : List ℕ) (g : Grid) (ps xs a b : List Float) 
   pub holds : part ≡ forwardPart N ws g ps xs a b
   pub lies : place ≡ cond (inFirst ws) firstPlace secondPlace
   pub number : k ≡ forwardRefusal N ws g ps xs a b
-
--- R8.9: all but the handing back: the number k, how many outputs n, both slices, and that n lies within either
-pub record Forwarded (N : Net) (ws : List ℕ) (g : Grid) (ps xs a b : List Float) (k n : ℕ) (a′ b′ : List Float) : Type 0 where
-  pub number : k ≡ forwardRefusal N ws g ps xs a b
-  pub count : n ≡ length (forwardPart N ws g ps xs a b)
-  pub first : a′ ≡ forwardFirst N ws g ps xs a b
-  pub second : b′ ≡ forwardSecond N ws g ps xs a b
-  pub withinFirst : n ≤ length a′
-  pub withinSecond : n ≤ length b′

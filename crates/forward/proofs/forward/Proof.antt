@@ -51,7 +51,8 @@ use Rattle.spline.specs.declared.Grid.{Grid}
 use Rattle.spline.proofs.Grid as grid
 use Rattle.spline.proofs.Grid.Laws as grid-laws
 use Rattle.layers.specs.Net.{netOf}
-use Rattle.forward.specs.Forward.{inFirst, forwardFirst, forwardSecond, Handed, Forwarded}
+use Rattle.forward.specs.Forward.{inFirst, forwardFirst, forwardSecond, Handed}
+use Rattle.forward.specs.Steps.{Forwarded}
 use Rattle.forward.proofs.Passing.{part-is}
 use Rattle.either_front.proofs.Again.{LentAgain, lends-again, comes-back}
 use Rattle.forward.proofs.work as work

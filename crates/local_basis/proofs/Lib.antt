@@ -7,5 +7,6 @@ pub mod Covered
 pub mod Moved
 pub mod Valued
 pub mod Sloped
+pub mod Squares
 pub mod Standing
 pub mod Dots

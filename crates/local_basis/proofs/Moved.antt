@@ -1,6 +1,6 @@
 -- Four numbers moved one place at a time. Assumes nothing.
 use mathlib.Core.Path.{_≡_, refl, sym, ap, _∙_}
-use Prim.Native.Nat.{ℕ, _+_, _-_, _≤_}
+use Prim.Native.Nat.{ℕ, zero, suc, _+_, _-_, _≤_}
 use native.Mathlib.Omega.{arith}
 use Rattle.local_basis.specs.declared.Four.{Four}
 use Rattle.local_basis.specs.Fours.{downBy, upBy, placedOf}
@@ -57,3 +57,17 @@ module _ (g a : ℕ) (s : Four) where
     where
       none : a - (g + 2) ≡ 0
       none = omega arith
+
+-- ---- where four begin does not depend on what they are
+down-together : (n : ℕ) (r s : Four) → r .start ≡ s .start → downBy n r .start ≡ downBy n s .start
+unfolding downBy
+down-together zero r s e = e
+down-together (suc n) r s e = down-together n _ _ e
+
+up-together : (n : ℕ) (r s : Four) → r .start ≡ s .start → upBy n r .start ≡ upBy n s .start
+unfolding upBy
+up-together zero r s e = e
+up-together (suc n) r s e = up-together n _ _ (ap (λ (k : ℕ). k - 1) e)
+
+pub placed-together : (g a : ℕ) (r s : Four) → r .start ≡ s .start → placedOf g a r .start ≡ placedOf g a s .start
+placed-together g a r s e = up-together (a - (g + 2)) _ _ (down-together (3 - a) r s e)

@@ -13,6 +13,7 @@ use Rattle.floats.specs.Sums.{at}
 use Rattle.floats.specs.Zeros.{isZero, Alike}
 use Rattle.spline.specs.declared.Grid.{Grid}
 use Rattle.spline.specs.Spline.{knotOf, portionOf, valueOf, slopeOf}
+use Rattle.local_basis.specs.declared.Eight.{Eight}
 use Rattle.local_basis.specs.declared.Four.{Four}
 use Rattle.local_basis.specs.declared.triangle.Squares.{Squares}
 
@@ -89,6 +90,29 @@ RisesAt g x a r =
     Neighbours (a - 3) (zero32 ⊖ riseLow g a x) (riseLow g a x ⊖ riseMiddle g a x) (riseMiddle g a x ⊖ riseHigh g a x)
     (riseHigh g a x ⊖ zero32) r
 
+-- the same from the squares at hand
+unfoldable pub cubesOf : Squares → Float → ℕ → Four
+cubesOf s x a = record {
+  start = a - 3;
+  first = portionOf (s .k4 ⊖ x) (s .low) (s .k4 ⊖ s .k1);
+  second = portionOf (x ⊖ s .k1) (s .low) (s .k4 ⊖ s .k1) ⊕ portionOf (s .k5 ⊖ x) (s .middle) (s .k5 ⊖ s .k2);
+  third = portionOf (x ⊖ s .k2) (s .middle) (s .k5 ⊖ s .k2) ⊕ portionOf (s .k6 ⊖ x) (s .high) (s .k6 ⊖ s .k3);
+  fourth = portionOf (x ⊖ s .k3) (s .high) (s .k6 ⊖ s .k3);
+}
+
+unfoldable pub risesOf : Squares → ℕ → Four
+risesOf s a =
+    let low = portionOf three32 (s .low) (s .k4 ⊖ s .k1) in
+    let middle = portionOf three32 (s .middle) (s .k5 ⊖ s .k2) in
+    let high = portionOf three32 (s .high) (s .k6 ⊖ s .k3) in
+    record {
+      start = a - 3;
+      first = zero32 ⊖ low;
+      second = low ⊖ middle;
+      third = middle ⊖ high;
+      fourth = high ⊖ zero32;
+    }
+
 -- near the ends of the knots fewer than four have a basis function: these are moved n places down, or up, and zeros
 -- follow
 unfoldable pub downBy : ℕ → Four → Four
@@ -124,6 +148,12 @@ Values g x r = Covers (g .intervals + 3) (λ (k : ℕ). valueOf g 3 k x) r
 
 abbrev pub Slopes : Grid → Float → Four → Type 0
 Slopes g x r = Covers (g .intervals + 3) (λ (k : ℕ). slopeOf g k x) r
+
+-- both, from the same index on
+pub record Both (g : Grid) (x : Float) (r : Eight) : Type 0 where
+  pub start : r .slopes .start ≡ r .values .start
+  pub values : Values g x (r .values)
+  pub slopes : Slopes g x (r .slopes)
 
 -- ---- the coefficients times the four, where those begin at place p
 abbrev pub fourDot : List Float → ℕ → Four → Float

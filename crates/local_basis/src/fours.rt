@@ -1,14 +1,16 @@
-// The four cubic basis values, or slopes, that can be other than zero at an input.
+// The four cubic basis values, the four slopes, or both, that can be other than zero at an input.
 ghost use mathlib.Core.Path.{_≡_};
 ghost use mathlib.Core.Bool.{true};
 ghost use Rattle.local_basis.specs.Meshes.{Meshed, gridBy, meshBy};
-ghost use Rattle.local_basis.specs.Fours.{noFour, Values, Slopes};
+ghost use Rattle.local_basis.specs.Fours.{noFour, Values, Slopes, Both};
+use crate::Eight;
 use crate::Four;
 use crate::Mesh;
 use crate::place::placed;
 use crate::search::interval;
 use crate::triangle::cubes;
 use crate::triangle::rises;
+use crate::triangle::squares_of;
 use spline::Grid;
 
 // For an input that no interval holds.
@@ -42,7 +44,7 @@ pub fn values_by(intervals: usize, lo: f32, hi: f32, width: f32, x: f32) -> Four
     if intervals + 5 < at {
         return no_four();
     }
-    placed(intervals, at, cubes(mesh, x, at))
+    placed(intervals, at, cubes(squares_of(mesh, x, at), x, at))
 }
 
 pub fn values_at(mesh: Mesh, x: f32) -> Four
@@ -66,5 +68,24 @@ pub fn slopes_at(mesh: Mesh, x: f32) -> Four
     if mesh.grid.intervals + 5 < at {
         return no_four();
     }
-    placed(mesh.grid.intervals, at, rises(mesh, x, at))
+    placed(mesh.grid.intervals, at, rises(squares_of(mesh, x, at), at))
+}
+
+// Both by one search and one triangle.
+pub fn both_at(mesh: Mesh, x: f32) -> Eight
+    requires { ⌜ Meshed mesh × (mesh .calm ≡ true) ⌝ }
+    ensures { λ r. ⌜ Both (mesh .grid) x r ⌝ }
+{
+    let at = interval(mesh, x);
+    if mesh.grid.intervals + 5 < at {
+        return Eight {
+            values: no_four(),
+            slopes: no_four(),
+        };
+    }
+    let squares = squares_of(mesh, x, at);
+    Eight {
+        values: placed(mesh.grid.intervals, at, cubes(squares, x, at)),
+        slopes: placed(mesh.grid.intervals, at, rises(squares, at)),
+    }
 }

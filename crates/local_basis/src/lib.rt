@@ -6,6 +6,7 @@ mod place;
 mod search;
 mod triangle;
 
+pub use fours::both_at;
 pub use fours::slopes_at;
 pub use fours::values_at;
 pub use fours::values_by;
@@ -28,6 +29,12 @@ pub struct Four {
     pub second: f32,
     pub third: f32,
     pub fourth: f32,
+}
+
+// Four values, and the slopes of the same four indices.
+pub struct Eight {
+    pub values: Four,
+    pub slopes: Four,
 }
 
 // Whether the width is above zero and the span of the knots is finite.

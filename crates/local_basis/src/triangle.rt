@@ -1,7 +1,7 @@
 // The triangle of Cox and de Boor on the six knots about an input: each value of a degree is worked out once.
 ghost use mathlib.Core.Path.{_≡_};
 ghost use Prim.Native.Nat.{_-_, _≤_};
-ghost use Rattle.local_basis.specs.Fours.{SquaresAt, CubesAt, RisesAt};
+ghost use Rattle.local_basis.specs.Fours.{SquaresAt, cubesOf, risesOf};
 ghost use Rattle.local_basis.specs.Meshes.{Meshed};
 use crate::Four;
 use crate::Mesh;
@@ -16,20 +16,20 @@ fn less(i: usize, n: usize) -> usize
 }
 
 // The six knots about an input, and the three values of degree 2 there.
-struct Squares {
-    k1: f32,
-    k2: f32,
-    k3: f32,
-    k4: f32,
-    k5: f32,
-    k6: f32,
-    low: f32,
-    middle: f32,
-    high: f32,
+pub struct Squares {
+    pub k1: f32,
+    pub k2: f32,
+    pub k3: f32,
+    pub k4: f32,
+    pub k5: f32,
+    pub k6: f32,
+    pub low: f32,
+    pub middle: f32,
+    pub high: f32,
 }
 
 // For an x from knot `at`, which is the third, up to the next.
-fn squares_of(mesh: Mesh, x: f32, at: usize) -> Squares
+pub fn squares_of(mesh: Mesh, x: f32, at: usize) -> Squares
     requires { ⌜ (at ≤ 260000) × Meshed mesh ⌝ }
     ensures { λ r. ⌜ SquaresAt (mesh .grid) x at r ⌝ }
 {
@@ -54,12 +54,10 @@ fn squares_of(mesh: Mesh, x: f32, at: usize) -> Squares
     }
 }
 
-// The four values at an x from knot `at` up to the next.
-pub fn cubes(mesh: Mesh, x: f32, at: usize) -> Four
-    requires { ⌜ (at ≤ 260000) × Meshed mesh ⌝ }
-    ensures { λ r. ⌜ CubesAt (mesh .grid) x at r ⌝ }
+// The four values at an x from knot `at` up to the next, by the squares there.
+pub fn cubes(s: Squares, x: f32, at: usize) -> Four
+    ensures { λ r. ⌜ r ≡ cubesOf s x at ⌝ }
 {
-    let s = squares_of(mesh, x, at);
     let a = portion(s.k4 - x, s.low, s.k4 - s.k1);
     let b = portion(x - s.k1, s.low, s.k4 - s.k1) + portion(s.k5 - x, s.middle, s.k5 - s.k2);
     let c = portion(x - s.k2, s.middle, s.k5 - s.k2) + portion(s.k6 - x, s.high, s.k6 - s.k3);
@@ -74,11 +72,9 @@ pub fn cubes(mesh: Mesh, x: f32, at: usize) -> Four
 }
 
 // The four slopes there.
-pub fn rises(mesh: Mesh, x: f32, at: usize) -> Four
-    requires { ⌜ (at ≤ 260000) × Meshed mesh ⌝ }
-    ensures { λ r. ⌜ RisesAt (mesh .grid) x at r ⌝ }
+pub fn rises(s: Squares, at: usize) -> Four
+    ensures { λ r. ⌜ r ≡ risesOf s at ⌝ }
 {
-    let s = squares_of(mesh, x, at);
     let rise_low = portion(3.0, s.low, s.k4 - s.k1);
     let rise_middle = portion(3.0, s.middle, s.k5 - s.k2);
     let rise_high = portion(3.0, s.high, s.k6 - s.k3);

@@ -105,13 +105,13 @@
 /* The version of this library. What is installed beside this header takes it from these three lines. */
 #define ESTIMATOR_VERSION_MAJOR 0
 #define ESTIMATOR_VERSION_MINOR 1
-#define ESTIMATOR_VERSION_PATCH 0
+#define ESTIMATOR_VERSION_PATCH 1
 
-/* "0.1.0" */
+/* "0.1.1" */
 #define ESTIMATOR_VERSION                                                       \
     ESTIMATOR_TEXT(ESTIMATOR_VERSION_MAJOR)                                     \
     "." ESTIMATOR_TEXT(ESTIMATOR_VERSION_MINOR) "." ESTIMATOR_TEXT(ESTIMATOR_VERSION_PATCH)
-/* For #if: 100 for 0.1.0, 10203 for 1.2.3. */
+/* For #if: 101 for 0.1.1, 10203 for 1.2.3. */
 #define ESTIMATOR_VERSION_NUMBER \
     (ESTIMATOR_VERSION_MAJOR * 10000 + ESTIMATOR_VERSION_MINOR * 100 + ESTIMATOR_VERSION_PATCH)
 #define ESTIMATOR_TEXT(number) ESTIMATOR_TEXT_OF(number)
@@ -212,9 +212,17 @@ uint32_t kan_train(const size_t *widths, size_t widths_len, size_t intervals, fl
 
 /*
  * The visit map of a batch, one byte for each parameter: a coefficient's is 1
- * when its basis value is not zero at some number that its edge reads, a
- * weight's when there is any row; else 0. `map` has P bytes, and the two work
- * slices `first` and `second` at least W floats each. No rows is accepted.
+ * when its basis value or its slope is not zero at some number that its edge
+ * reads, a weight's when there is any row; else 0. -0.0 is zero, an infinity and
+ * a NaN are not; outside the knots value and slope are zero. `map` has P bytes,
+ * and the two work slices `first` and `second` at least W floats each. No rows
+ * is accepted.
+ *
+ * What a 0 is worth: two models, all finite, that differ only in coefficients
+ * which an accepted call on one of them marks 0 are answered alike, bit by bit,
+ * by kan_predict, kan_loss and kan_train_step on the same inputs, refusals too;
+ * the step leaves those coefficients alone. kan_train is another matter: its
+ * second step may read other numbers in hidden nodes.
  *
  * Refusals: configuration, 8, 9, 10, 11, then row by row 14, 15, 20. 7 carries
  * the total; 14, 15 and 20 carry the row, counted from 0.

@@ -7,7 +7,8 @@ use native.Mathlib.Nat.{eq-or-lt-of-le}
 use native.Mathlib.Numerals.{add-one}
 use native.Mathlib.Omega.{arith}
 use borrow.Author.Tests.{ne-eqb}
-use Rattle.refusals.specs.Refusals.{_otherwise_, _then_, firstTo, doneTo, past}
+use Rattle.refusals.specs.declared.Outcome.the-variants.{Done}
+use Rattle.refusals.specs.Refusals.{_otherwise_, _then_, firstTo, doneTo, past, outcomeOf}
 
 -- ---- one check, and one after the other
 pub then-first : (m n : ℕ) → (m ≡ 0 → ⊥) → m ≡ (m then n)
@@ -36,6 +37,11 @@ then-at-most k (suc m) n h l = h
 pub past-stopped : {A : Type 0} (n : ℕ) (new old : A) → (n ≡ 0 → ⊥) → past n new old ≡ old
 past-stopped zero new old h = absurd (h refl)
 past-stopped (suc n) new old h = refl
+
+-- an answer that is `Done` has no refusal
+pub not-refused : (n c : ℕ) → outcomeOf n c ≡ Done → n ≡ 0
+not-refused zero c e = refl
+not-refused (suc n) c e = let z : _≡_ {A = ℕ} 0 1 = cc in absurd (omega arith)
 
 -- ---- the first of many
 pub first-none : (f : ℕ → ℕ) → firstTo f 0 ≡ 0

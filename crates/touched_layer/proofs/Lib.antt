@@ -1,3 +1,4 @@
+pub mod Touching
 pub mod Marking
 pub mod Fours
 pub mod Layers

@@ -3,9 +3,8 @@ use Prim.Native.Nat.{ℕ, _+_}
 use mathlib.Core.Bool.{Bool, cond}
 use mathlib.Core.List.{List, [], _∷_}
 use lib.ListN.{getD, set}
-use lib.Ieee.{Float, ne}
-use Rattle.floats.specs.Binary32.{zero32}
-use Rattle.local_basis.specs.declared.Four.{Four}
+use Rattle.local_basis.specs.declared.Eight.{Eight}
+use Rattle.touched_layer.specs.Touched.{touchesBy}
 
 -- the bytes at the front whose parameters are touched become 1, all others stay
 unfoldable pub markedBy : List Bool → List ℕ → List ℕ
@@ -13,12 +12,16 @@ markedBy [] ms = ms
 markedBy (b ∷ bs) [] = []
 markedBy (b ∷ bs) (m ∷ ms) = cond b 1 m ∷ markedBy bs ms
 
--- byte k becomes 1 where a number of the basis is not zero
-unfoldable pub markAt : ℕ → Float → List ℕ → List ℕ
-markAt k y ms = set ms k (cond (ne y zero32) 1 (getD ms k 0))
+-- byte k becomes 1 where its coefficient is touched
+unfoldable pub markAt : ℕ → Bool → List ℕ → List ℕ
+markAt k touched ms = set ms k (cond touched 1 (getD ms k 0))
 
--- the four bytes of four neighbouring numbers
-abbrev pub fourMarked : Four → List ℕ → List ℕ
+-- four neighbouring bytes, from s on
+abbrev pub fourAt : ℕ → Bool → Bool → Bool → Bool → List ℕ → List ℕ
+fourAt s a b c d ms = markAt (s + 3) d (markAt (s + 2) c (markAt (s + 1) b (markAt s a ms)))
+
+-- by the four values and the four slopes of their coefficients
+abbrev pub fourMarked : Eight → List ℕ → List ℕ
 fourMarked r ms =
-    markAt (r .start + 3) (r .fourth) (markAt (r .start + 2) (r .third)
-    (markAt (r .start + 1) (r .second) (markAt (r .start) (r .first) ms)))
+    fourAt (r .values .start) (touchesBy (r .values .first) (r .slopes .first)) (touchesBy (r .values .second) (r .slopes .second))
+    (touchesBy (r .values .third) (r .slopes .third)) (touchesBy (r .values .fourth) (r .slopes .fourth)) ms

@@ -1,4 +1,4 @@
-// The marks of one edge's coefficients: by the four basis values that can be other than zero, or one by one.
+// The marks of one edge's coefficients: by the four basis values and slopes that can be other than zero, or one by one.
 ghost use mathlib.Core.Path.{_≡_};
 ghost use mathlib.Core.Bool.{cond};
 ghost use Prim.Native.Nat.{ℕ, _+_, _≤_, _<_};
@@ -7,18 +7,28 @@ ghost use Rattle.floats.specs.Sums.{tabulate};
 ghost use Rattle.local_basis.specs.Meshes.{Meshed};
 ghost use Rattle.layers.specs.Basis.{Basis};
 ghost use Rattle.layers.specs.Net.{basisOf};
-ghost use Rattle.touched_layer.specs.Touched.{touches};
+ghost use Rattle.touched_layer.specs.Touched.{touches, touchesBy};
 ghost use Rattle.touched_layer.specs.Marks.{markedBy, markAt, fourMarked};
-use local_basis::Four;
+use local_basis::Eight;
 use local_basis::Mesh;
 use spline::Grid;
+
+// Whether a coefficient of this basis value and this slope is touched: a value may underflow where its slope does not.
+fn touched_by(value: f32, slope: f32) -> bool
+    ensures { λ r. ⌜ r ≡ touchesBy value slope ⌝ }
+{
+    value != 0.0 || slope != 0.0
+}
 
 // Whether the number x touches coefficient k.
 fn is_touched(grid: Grid, k: usize, x: f32) -> bool
     requires { ⌜ (grid .intervals ≤ 250000) × (k < grid .intervals + 3) ⌝ }
     ensures { λ r. ⌜ r ≡ touches (basisOf grid) k x ⌝ }
 {
-    spline::basis_value(grid, 3, k, x) != 0.0
+    touched_by(
+        spline::basis_value(grid, 3, k, x),
+        spline::basis_slope(grid, k, x),
+    )
 }
 
 fn mark(byte: u8, touched: bool) -> u8
@@ -27,7 +37,7 @@ fn mark(byte: u8, touched: bool) -> u8
     if touched { 1 } else { byte }
 }
 
-// Every coefficient by itself: where the knots' span is not finite, a value far from x can be a NaN.
+// Every coefficient by itself: where the knots' span is not finite, a value or a slope far from x can be a NaN.
 fn mark_plain(grid: Grid, x: f32, map: &mut [u8])
     requires { ⌜ (grid .intervals ≤ 250000) × (grid .intervals + 3 ≤ length (now map)) ⌝ }
     ensures { λ _. ⌜ now (map .exit)
@@ -39,24 +49,26 @@ fn mark_plain(grid: Grid, x: f32, map: &mut [u8])
     }
 }
 
-// Byte k, by a number of the basis.
-fn mark_at(map: &mut [u8], k: usize, number: f32)
+// Byte k, by its coefficient's basis value and slope.
+fn mark_at(map: &mut [u8], k: usize, value: f32, slope: f32)
     requires { ⌜ k < length (now map) ⌝ }
-    ensures { λ _. ⌜ now (map .exit) ≡ markAt k number (now (map .entry)) ⌝ }
+    ensures { λ _. ⌜ now (map .exit) ≡ markAt k (touchesBy value slope) (now (map .entry)) ⌝ }
 {
-    map[k] = mark(map[k], number != 0.0);
+    map[k] = mark(map[k], touched_by(value, slope));
 }
 
 // Four neighbouring bytes.
-fn mark_four(four: Four, map: &mut [u8])
-    requires { ⌜ four .start + 4 ≤ length (now map) ⌝ }
-    ensures { λ _. ⌜ now (map .exit) ≡ fourMarked four (now (map .entry)) ⌝ }
+fn mark_four(eight: Eight, map: &mut [u8])
+    requires { ⌜ eight .values .start + 4 ≤ length (now map) ⌝ }
+    ensures { λ _. ⌜ now (map .exit) ≡ fourMarked eight (now (map .entry)) ⌝ }
 {
-    let at = four.start;
-    mark_at(map, at, four.first);
-    mark_at(map, at + 1, four.second);
-    mark_at(map, at + 2, four.third);
-    mark_at(map, at + 3, four.fourth);
+    let values = eight.values;
+    let slopes = eight.slopes;
+    let at = values.start;
+    mark_at(map, at, values.first, slopes.first);
+    mark_at(map, at + 1, values.second, slopes.second);
+    mark_at(map, at + 2, values.third, slopes.third);
+    mark_at(map, at + 3, values.fourth, slopes.fourth);
 }
 
 pub fn mark_coefficients(mesh: Mesh, x: f32, map: &mut [u8])
@@ -65,7 +77,7 @@ pub fn mark_coefficients(mesh: Mesh, x: f32, map: &mut [u8])
         (mesh .grid .intervals + 3)) (now (map .entry)) ⌝ }
 {
     if mesh.calm {
-        mark_four(local_basis::values_at(mesh, x), map);
+        mark_four(local_basis::both_at(mesh, x), map);
     } else {
         mark_plain(mesh.grid, x, map);
     }

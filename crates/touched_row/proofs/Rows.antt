@@ -49,11 +49,11 @@ marked-held g w n {from} ms h p =
     p ∙ ap (λ (l : List Float). markedBy (layerTouched (basisOf g) l n) ms) (front w from ∙ ap (take w) (sym h))
 
 -- what layer l touches
-abbrev rowLayer : Net → List Float → List ℕ → List Float → ℕ → List Bool
+abbrev pub rowLayer : Net → List Float → List ℕ → List Float → ℕ → List Bool
 rowLayer N ps ws xs l = layerTouched (basisAt N l) (nodesOf N ps ws xs l) (widthAt ws (l + 1))
 
 -- the first l layers have as many parameters as the model has there
-row-length : (g : Grid) (ps : List Float) (ws : List ℕ) (xs : List Float) → length xs ≡ widthAt ws 0 → (l : ℕ)
+pub row-length : (g : Grid) (ps : List Float) (ws : List ℕ) (xs : List Float) → length xs ≡ widthAt ws 0 → (l : ℕ)
     → length (flatTo (rowLayer (netOf g) ps ws xs) l) ≡ paramsTo (g .intervals + 5) ws l
 unfolding flatTo paramsTo
 row-length g ps ws xs e zero = refl

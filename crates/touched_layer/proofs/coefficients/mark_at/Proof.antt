@@ -7,6 +7,9 @@ use Rattle.touched_layer.proofs.coefficients.mark_at.Tie as tie
 slice-read-mark : tie.Need-slice-read-mark
 slice-read-mark c = search needs
 
+touched-by-requires : tie.Need-touched-by-requires
+touched-by-requires c κs = search needs
+
 mark-requires : tie.Need-mark-requires
 mark-requires c κs = search needs
 
@@ -18,7 +21,7 @@ same-length c = search needs
 
 returns : tie.Need-returns
 unfolding markAt
-returns c = rw (c .mark .ensures)
+returns c = rw (c .mark .ensures, c .before .touched-by .ensures)
 
 pub mark-at-spec : {M : Type 1} → statement M
-mark-at-spec = tie.close (tie.spec slice-read-mark mark-requires slice-write-map same-length returns)
+mark-at-spec = tie.close (tie.spec slice-read-mark touched-by-requires mark-requires slice-write-map same-length returns)

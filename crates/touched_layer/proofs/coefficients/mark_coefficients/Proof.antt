@@ -1,6 +1,5 @@
 -- `touched_layer::mark_coefficients` meets its contract, by whichever of the two. Assumes nothing.
 use mathlib.Core.Path.{_∙_}
-use Rattle.touched_layer.specs.Touched.{touches}
 use Rattle.touched_layer.proofs.Fours.{four-marked}
 use borrow.Author.Needs.{needs}
 use Rattle.touched_layer.proofs.coefficients.mark_coefficients.Statement.{statement}
@@ -13,12 +12,12 @@ entry c = c .before .before
 abbrev by-four : tie.After-slice-known2 → tie.After-mark-four
 by-four c = c .before .before
 
-abbrev valued : tie.After-mark-four → tie.After-values-at
+abbrev valued : tie.After-mark-four → tie.After-both-at
 valued c = c .before .before
 
 -- ---- the needs
-values-at-requires : tie.Need-values-at-requires
-values-at-requires c κs = (entry c .pre .0, c .if1 .taken)
+both-at-requires : tie.Need-both-at-requires
+both-at-requires c κs = (entry c .pre .0, c .if1 .taken)
 
 mark-four-requires : tie.Need-mark-four-requires
 mark-four-requires c κs = search needs
@@ -30,11 +29,10 @@ same-length : tie.Need-same-length
 same-length c = search needs
 
 returns : tie.Need-returns
-unfolding touches
 returns c =
     let m = by-four c in
     let v = valued m in
-    m .mark-four .ensures ∙ four-marked (v .values-at .ensures) _ (entry (v .before) .pre .1)
+    m .mark-four .ensures ∙ four-marked (v .both-at .ensures) _ (entry (v .before) .pre .1)
 
 same-length-2 : tie.Need-same-length-2
 same-length-2 c = search needs
@@ -46,7 +44,7 @@ pub mark-coefficients-spec : {M : Type 1} → statement M
 mark-coefficients-spec =
     tie.close
     (tie.spec
-    values-at-requires
+    both-at-requires
     mark-four-requires
     mark-plain-requires
     same-length

@@ -13,3 +13,6 @@ pub mod Training
 pub mod Demand
 pub mod Start
 pub mod Hidden
+pub mod Marked
+pub mod Visiting
+pub mod Unmarked

@@ -3,3 +3,4 @@ pub mod Readings
 pub mod Alike
 pub mod Demand
 pub mod Start
+pub mod Unmarked

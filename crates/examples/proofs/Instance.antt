@@ -15,8 +15,8 @@ use Rattle.layers.specs.Net.{netOf}
 use Rattle.passes.specs.Pass.{nodesOf}
 use Rattle.batches.specs.Batch.{rowsIn}
 use Rattle.refusals.specs.declared.Outcome.{Outcome}
-use Rattle.refusals.specs.declared.Outcome.the-variants.{Done}
 use Rattle.refusals.specs.Refusals.{outcomeOf}
+use Rattle.refusals.proofs.Firsts.{not-refused}
 use Rattle.layers.specs.Widths.{widthsTo, paramsTo, parametersIn, nodesIn}
 use Rattle.config.specs.Config.{unitGrid, carriedBy}
 use Rattle.admission.specs.Admission.{upTo9InTraining, swept}
@@ -107,11 +107,6 @@ alike =
     (afterStep changed) cleared bare (record { answer = refl; leaves = record { model = refl; gradients = refl; work = refl } })
     (record { answer = refl; leaves = record { model = refl; gradients = refl; work = refl } }) in
     (both .0, both .1)
-
--- an answer that is `Done` has no refusal
-not-refused : (n c : ℕ) → outcomeOf n c ≡ Done → n ≡ 0
-not-refused zero c e = refl
-not-refused (suc n) c e = let z : _≡_ {A = ℕ} 0 1 = cc in absurd (omega arith)
 
 abbrev moved : List Float
 moved = weighted (bits 0xc0f0_0000 ∷ bits 0x3e2a_aaab ∷ bits 0x3f2a_aaab ∷ bits 0x3e2a_aaab ∷ minusZero32 ∷ [])

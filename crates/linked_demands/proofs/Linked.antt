@@ -1,20 +1,27 @@
--- Demand 3 and the start of `dot` reach through the C linkage: calls that answer alike are told alike. Assumes nothing.
-use Prim.Native.Nat.{ℕ, _+_}
-use mathlib.Core.Path.{_≡_, sym, ap, _∙_}
+-- Demand 3, the start of `dot` and what a map shows reach through the C linkage: calls that answer alike are told alike. Assumes nothing.
+use Prim.Native.Nat.{ℕ, zero, suc, _+_}
+use native.Mathlib.Omega.{arith}
+use mathlib.Core.Path.{_≡_, sym, ap, _∙_, subst}
 use mathlib.Core.List.{List}
 use lib.Ieee.{Float}
 use Rattle.refusals.specs.declared.Refusal.{Refusal}
+use Rattle.refusals.specs.declared.Outcome.{Outcome}
+use Rattle.refusals.specs.declared.Outcome.the-variants.{Done}
+use Rattle.refusals.specs.Refusals.{outcomeOf, outcomeRefusal}
 use Rattle.spline.specs.declared.Grid.{Grid}
 use Rattle.layers.specs.Net.{Net, netOf}
 use Rattle.demands.specs.Silent.{Places, Differ}
 use Rattle.demands.specs.Alike.{LeftAlike, SamePredict, SameLoss, SameStep, SameTraining}
 use Rattle.demands.specs.Start.{fromMinusZero}
 use Rattle.demands.proofs.Demand.{demand-3}
+use Rattle.demands.specs.Unmarked.{unmarked}
 use Rattle.demands.proofs.Hidden.{start-hidden}
+use Rattle.demands.proofs.Unmarked.{map-shows}
 use Rattle.estimator.specs.Linkage.{Linked, meanOr}
 use Rattle.training.specs.Train.{stepsDone}
+use Rattle.visit_map.specs.Visits.{visitRefusal, visitCarried, Visited}
 use Rattle.linked_demands.specs.Linked.{SameLinked, SameKanPredict, SameKanLoss, SameKanStep, SameKanTrain}
-use Rattle.linked_demands.specs.Linked.{LinkedDemand, LinkedHidden, LinkedDemands}
+use Rattle.linked_demands.specs.Linked.{LinkedDemand, LinkedHidden, LinkedUnmarked, LinkedDemands}
 
 -- the same answer has the same number, and carries the same
 told-alike : {A : Type 0} {refusalOf : A → Refusal} {P Q : A → Type 0} {Rest : Type 0}
@@ -71,5 +78,29 @@ linked-hidden ws g ps xs =
       train = λ ts rate gs W steps. kan-train (hidden .train ts rate gs W steps);
     }
 
+-- a call that was told as 0 was not refused
+told-done : (n c : ℕ) (r : Outcome) → r ≡ outcomeOf n c → 0 ≡ outcomeRefusal r .number → r ≡ Done
+told-done zero c r e z = e
+told-done (suc n) c r e z =
+    let z : _≡_ {A = ℕ} 0 (suc n) = z ∙ ap (λ (o : Outcome). outcomeRefusal o .number) e in absurd (omega arith)
+
+module _ (ws : List ℕ) (g : Grid) (ps xs a b : List Float) (ms : List ℕ) (a′ b′ : List Float) (ms′ : List ℕ) (c : ℕ)
+    (v : Linked outcomeRefusal 0 c (λ o. Visited (netOf g) ws g ps xs a b ms o a′ b′ ms′)) where
+  accepted : Visited (netOf g) ws g ps xs a b ms Done a′ b′ ms′
+  accepted =
+      subst (λ (o : Outcome). Visited (netOf g) ws g ps xs a b ms o a′ b′ ms′)
+      (told-done (visitRefusal (netOf g) ws g ps xs a b ms) (visitCarried (netOf g) ws g ps xs a b ms) (v .answer) (v .call .answer)
+      (v .told .number)) (v .call)
+
+  linked-unmarked : (qs : List Float) → Differ (g .intervals + 5) (unmarked (g .intervals + 5) ms′) ps qs
+      → LinkedUnmarked (netOf g) ws g ps xs ms′ qs
+  linked-unmarked qs differ =
+      let alike = map-shows ws g ps xs a b ms a′ b′ ms′ accepted .alike qs differ in
+      record {
+        predict = λ a b ys. kan-predict (alike .predict a b ys);
+        loss = λ ts a b lent. kan-loss lent (alike .loss ts a b);
+        step = λ ts rate gs W. kan-step (alike .step ts rate gs W);
+      }
+
 pub linked-demands : LinkedDemands
-linked-demands = record { demand = linked-demand; start = linked-hidden }
+linked-demands = record { demand = linked-demand; start = linked-hidden; map = linked-unmarked }

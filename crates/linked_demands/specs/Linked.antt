@@ -1,5 +1,5 @@
--- R17.1, R17.2: demand 3 and the start of `dot` of the C functions, in the words of their contracts: the number, `carried`, and all that was lent.
--- Definitions only.
+-- R17.1, R17.2, R17.4: demand 3, the start of `dot` and what a visit map shows, of the C functions, in the words of their contracts: the number,
+-- `carried`, and all that was lent. Definitions only.
 use Prim.Native.Nat.{ℕ, _+_}
 use mathlib.Core.Path.{_≡_}
 use mathlib.Core.List.{List}
@@ -10,11 +10,13 @@ use Rattle.spline.specs.declared.Grid.{Grid}
 use Rattle.layers.specs.Net.{Net, netOf}
 use Rattle.prediction.specs.Predict.{upTo11, Predicted}
 use Rattle.loss.specs.Loss.{upTo18, lossRefusal, Lost}
+use Rattle.visit_map.specs.Visits.{Visited}
 use Rattle.training.specs.Train.{upTo19, trainingRefusal, stepsDone, Stepped, Trained}
 use Rattle.demands.specs.Silent.{Places, Differ}
 use Rattle.demands.specs.Readings.{PredictReads, LossReads, TrainReads}
 use Rattle.demands.specs.Alike.{LeftAlike}
 use Rattle.demands.specs.Start.{fromMinusZero}
+use Rattle.demands.specs.Unmarked.{unmarked}
 use Rattle.estimator.specs.Linkage.{Linked, meanOr}
 
 -- two C functions that did what P and Q say answer the same number, carry the same, and leave memory as Rest says
@@ -70,8 +72,20 @@ pub record LinkedHidden (N M : Net) (ws : List ℕ) (g : Grid) (ps xs : List Flo
   pub train : (ts : List Float) (rate : Float) (gs W : List Float) (steps : ℕ)
       → SameKanTrain N M ws g ps ps xs _≡_ ts rate gs W steps
 
--- both, of the network that every call has
+-- R17.4: any model that differs from ps only in coefficients that a map marks 0
+pub record LinkedUnmarked (N : Net) (ws : List ℕ) (g : Grid) (ps xs : List Float) (map : List ℕ) (qs : List Float) : Type 0 where
+  pub predict : (a b ys : List Float) → SameKanPredict N N ws g ps qs xs a b ys
+  pub loss : (ts a b : List Float) (lent : Float) → SameKanLoss N N ws g ps qs xs ts a b lent
+  pub step : (ts : List Float) (rate : Float) (gs W : List Float)
+      → SameKanStep N N ws g ps qs xs (LeftAlike (unmarked (N .stride) map) ps qs) ts rate gs W
+
+-- all of them, of the network that every call has
 pub record LinkedDemands : Type 0 where
   pub demand : (ws : List ℕ) (g : Grid) (D : Places) (ps qs : List Float) → Differ (g .intervals + 5) D ps qs
       → LinkedDemand (netOf g) ws g D ps qs
   pub start : (ws : List ℕ) (g : Grid) (ps xs : List Float) → LinkedHidden (netOf g) (fromMinusZero g) ws g ps xs
+  -- after a `kan_visits` that answered 0
+  pub map : (ws : List ℕ) (g : Grid) (ps xs a b : List Float) (ms : List ℕ) (a′ b′ : List Float) (ms′ : List ℕ) (c : ℕ)
+      → Linked outcomeRefusal 0 c (λ o. Visited (netOf g) ws g ps xs a b ms o a′ b′ ms′)
+      → (qs : List Float) → Differ (g .intervals + 5) (unmarked (g .intervals + 5) ms′) ps qs
+      → LinkedUnmarked (netOf g) ws g ps xs ms′ qs

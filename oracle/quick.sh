@@ -22,3 +22,4 @@ compare calls --rounds 5000
 compare training --rounds 2000
 compare images --rounds 5000
 compare visits --rounds 5000
+compare unmarked --rounds 3000

@@ -3,7 +3,7 @@
 #   oracle/run.sh self-test
 #   oracle/run.sh lists [images | visits]
 #   oracle/run.sh leaves [--every N] [--offset M] [--basis N]
-#   oracle/run.sh calls | training | images | visits [--rounds N] [--seed S] [--large] [--round R]
+#   oracle/run.sh calls | training | images | visits | unmarked [--rounds N] [--seed S] [--large] [--round R]
 #   oracle/run.sh bench .. (bench/run.sh makes what it needs)
 # KAN_RUST: folder of the ported Rust; ESTIMATOR_LIB: folder of the proved code's archives.
 # Status 3: something that is needed is not here and can't be installed.
@@ -50,21 +50,25 @@ need_archive() {
     [ -f "$archives/lib$1.a" ] || stop "no $archives/lib$1.a: \`rt staticlib $1\` makes it"
 }
 
-# The linker would say the same at length.
-need_call() {
+# need_calls NAME..: the linker would say the same at length.
+need_calls() {
+    local name
     need_archive estimator
-    nm "$archives/libestimator.a" | grep " T $1\$" >/dev/null || stop "$archives/libestimator.a has no $1" 1
+    for name in "$@"; do
+        nm "$archives/libestimator.a" | grep " T $name\$" >/dev/null || stop "$archives/libestimator.a has no $name" 1
+    done
 }
 
 case $program in
     self-test | lists) ;;
     leaves) need_archive leaves ;;
-    calls) need_call kan_loss ;;
-    training) need_call kan_train ;;
-    images) need_call kan_image_read ;;
-    visits) need_call kan_visits ;;
-    bench) need_call kan_train ;;
-    *) stop "name a program: self-test, lists, leaves, calls, training, images, visits or bench" 2 ;;
+    # All four are linked with all calls on a network (src/bin/proved/calls.rs).
+    calls | training | visits | unmarked)
+        need_calls kan_check kan_initialise kan_predict kan_loss kan_train_step kan_train kan_visits
+        ;;
+    images) need_calls kan_image_read ;;
+    bench) need_calls kan_train ;;
+    *) stop "name a program: self-test, lists, leaves, calls, training, images, visits, unmarked or bench" 2 ;;
 esac
 shift
 

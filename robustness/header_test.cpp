@@ -160,6 +160,42 @@ void maps() {
     expect_refused(model.visits(Numbers{0, NAN}, work).outcome(), 15, 1, "refused 15: input not finite (row 1)");
 }
 
+// [1, 1, 1] with two intervals. At 1 the second edge reads a number so close to a knot that the basis value of the last
+// coefficient is 0 and its slope is not; of the edge's first coefficient, at 9, both are 0.
+Model beside_a_knot(std::size_t place, float parameter) {
+    const std::array<float, 14> parameters{2e-16f, 1, 0, 0, 0, 0, 0, 0.5f, 1, 0, 0, 0, 0, 0};
+    Model model = Model::initialise({{1, 1, 1}, 2}, 0).value();
+    std::memcpy(model.parameters().data(), parameters.data(), sizeof parameters);
+    model.parameters().data()[place] = parameter;
+    return model;
+}
+
+std::vector<std::uint8_t> map_at_1(const Model &model) {
+    Work work(model);
+    return model.visits(Numbers{1}, work).value();
+}
+
+// The bits of all parameters after a step.
+std::array<std::uint32_t, 14> stepped_at_1(Model model) {
+    Work work(model);
+    expect(model.train(Numbers{1}, Numbers{1}, 1, 0.5f, work).done == 1, "one step beside a knot");
+    std::array<std::uint32_t, 14> bits;
+    std::memcpy(bits.data(), model.parameters().data(), sizeof bits);
+    return bits;
+}
+
+// Coefficients are edited: one that the map marks may change a step, one that it does not mark only changes itself.
+void edits() {
+    const Model model = beside_a_knot(13, 0), marked = beside_a_knot(13, 1e38f), unmarked = beside_a_knot(9, 1e38f);
+    const std::vector<std::uint8_t> map{1, 1, 0, 0, 1, 1, 1, 1, 1, 0, 1, 1, 1, 1};
+    expect(map_at_1(model) == map && map_at_1(marked) == map, "a coefficient is marked by its slope");
+    auto step = stepped_at_1(model);
+    expect(step[0] == 0x3E3B26A8 && stepped_at_1(marked)[0] == 0x493EC6FD, "edited, it changes the step");
+    step[9] = 0x7E967699; // 1e38
+    expect(map_at_1(unmarked) == map, "an unmarked coefficient, edited, leaves the map as it is");
+    expect(stepped_at_1(unmarked) == step, "and the step but for itself");
+}
+
 void images() {
     Model model = Model::initialise({{2, 3, 1}, 2, -0.0f, 1.0f}, 7).value();
     const std::vector<std::uint8_t> image = model.image().value();
@@ -401,6 +437,7 @@ int main(int count, char **) {
     losses();
     trainings();
     maps();
+    edits();
     images();
     allocation();
     threads();

@@ -1,6 +1,7 @@
 //! One call on a network with everything that is lent to it: before, after, and what two ends of it differ in.
 
-use crate::compared::{Column, Compared, Line, DEFAULT_4, LATER_20, LATER_23};
+use crate::compared::{Column, Compared, Differences, Line, Names};
+use crate::compared::{DEFAULT_4, LATER_20, LATER_23};
 use crate::lent::{Cell, Lent};
 use crate::nans::{fill, first_not_finite, NanAt};
 use crate::ported::Grid;
@@ -140,6 +141,13 @@ impl Call {
         let (model, inputs) = (self.model.contents(), self.inputs.contents());
         visits::map(config, model, inputs, work, self.map.contents_mut())
     }
+
+    /// Of an accepted map, the places of coefficients that it marks by their slopes alone.
+    pub fn marked_by_slope(&self) -> Vec<usize> {
+        let config = Configuration::new(self.widths.contents(), self.grid);
+        let (model, inputs) = (self.model.contents(), self.inputs.contents());
+        visits::marked_by_slope(&config, model, inputs, self.map.contents())
+    }
 }
 
 impl Compared for Call {
@@ -166,26 +174,23 @@ impl Compared for Call {
         self
     }
 
-    fn differences(&self, reading: &Call) -> Vec<String> {
-        let mut lines = Vec::new();
-        if self.number != reading.number {
-            let (proved, read) = (self.number, reading.number);
-            lines.push(format!("number: proved {proved}, reading {read}"));
-        }
+    fn differences(&self, other: &Call, names: Names) -> Vec<String> {
+        let mut lines = Differences::new(names);
+        lines.compare_numbers(self.number, other.number);
         let numbers = [
-            ("carried", &self.carried, &reading.carried),
-            ("parameters", &self.parameters, &reading.parameters),
-            ("done", &self.done, &reading.done),
-            ("widths", &self.widths, &reading.widths),
+            ("carried", &self.carried, &other.carried),
+            ("parameters", &self.parameters, &other.parameters),
+            ("done", &self.done, &other.done),
+            ("widths", &self.widths, &other.widths),
         ];
-        for (name, proved, read) in numbers {
-            compare(&mut lines, name, proved, read);
+        for (name, own, others) in numbers {
+            lines.compare(name, own, others);
         }
-        for ((name, proved), (_, read)) in self.floats().into_iter().zip(reading.floats()) {
-            compare(&mut lines, name, proved, read);
+        for ((name, own), (_, others)) in self.floats().into_iter().zip(other.floats()) {
+            lines.compare(name, own, others);
         }
-        compare(&mut lines, "map", &self.map, &reading.map);
-        lines
+        lines.compare("map", &self.map, &other.map);
+        lines.all()
     }
 
     fn answer(&self) -> (u32, usize) {
@@ -312,13 +317,6 @@ fn short_row(batch: &Lent<f32>, width: usize) -> usize {
 /// The bits of all lent cells.
 pub fn bits<T: Cell>(lent: &Lent<T>) -> Vec<u64> {
     lent.contents().iter().map(|cell| cell.bits()).collect()
-}
-
-/// Adds a line where the cells of one buffer differ.
-pub fn compare<T: Cell>(lines: &mut Vec<String>, name: &str, proved: &Lent<T>, read: &Lent<T>) {
-    if let Some((place, a, b)) = proved.difference(read) {
-        lines.push(format!("{name}[{place}]: proved {a:x}, reading {b:x}"));
-    }
 }
 
 impl Column for Kind {

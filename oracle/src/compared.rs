@@ -1,6 +1,6 @@
 //! What all compared calls have in common: a kind, two ways of being made, and a line of the table on which they end.
 
-use crate::lent::Lent;
+use crate::lent::{Cell, Lent};
 use crate::nans::NanAt;
 use std::fmt::Display;
 
@@ -35,8 +35,8 @@ pub trait Compared: Clone + Display {
     /// The call as the rules have it.
     fn read(self) -> Self;
 
-    /// Everything in which two ends of the same call differ, as lines.
-    fn differences(&self, reading: &Self) -> Vec<String>;
+    /// Everything in which two ends differ, as lines in which they have these names.
+    fn differences(&self, other: &Self, names: Names) -> Vec<String>;
 
     /// The number that the call gave, and what it carried.
     fn answer(&self) -> (u32, usize);
@@ -61,6 +61,43 @@ pub trait Compared: Clone + Display {
     /// The training steps that were made.
     fn steps(&self) -> u64 {
         0
+    }
+}
+
+/// What two ends that are compared are called, in their order.
+pub type Names = [&'static str; 2];
+
+/// The lines that tell in what two ends of a call differ.
+pub struct Differences {
+    names: Names,
+    lines: Vec<String>,
+}
+
+impl Differences {
+    pub fn new(names: Names) -> Self {
+        let lines = Vec::new();
+        Differences { names, lines }
+    }
+
+    /// Adds a line where the numbers of refusal differ.
+    pub fn compare_numbers(&mut self, a: u32, b: u32) {
+        let [one, other] = self.names;
+        if a != b {
+            self.lines.push(format!("number: {one} {a}, {other} {b}"));
+        }
+    }
+
+    /// Adds a line where the cells of one buffer differ.
+    pub fn compare<T: Cell>(&mut self, name: &str, a: &Lent<T>, b: &Lent<T>) {
+        let [one, other] = self.names;
+        if let Some((place, a, b)) = a.difference(b) {
+            let line = format!("{name}[{place}]: {one} {a:x}, {other} {b:x}");
+            self.lines.push(line);
+        }
+    }
+
+    pub fn all(self) -> Vec<String> {
+        self.lines
     }
 }
 

@@ -2,7 +2,8 @@
 
 mod images;
 mod training;
-mod visits;
+pub mod unmarked;
+pub mod visits;
 
 use crate::bits::beside;
 use crate::calls::{Call, Kind, FIRST_KINDS};
@@ -14,7 +15,7 @@ use crate::lent::{Cell, Lent};
 use crate::nans;
 use crate::ported::Grid;
 use crate::reading::{self, Configuration, STUCK_INTERVALS};
-use crate::rounds::{Compare, Round};
+use crate::rounds::{Comparison, Round};
 
 const MOST_PARAMETERS: usize = 250_000;
 /// Larger models are left to the chosen calls, as each parameter costs time.
@@ -42,9 +43,9 @@ impl Maker {
     }
 
     /// One drawn call of each kind of the program `calls`.
-    pub fn first_kinds(&mut self, round: Round, compare: Compare<Call>) {
+    pub fn first_kinds(&mut self, comparison: &mut Comparison<Call>) {
         for kind in FIRST_KINDS {
-            compare(&self.call(kind, round));
+            comparison.compare(&self.call(kind, comparison.round));
         }
     }
 
@@ -225,13 +226,7 @@ impl Maker {
                 7 => draws.finite(),
                 8 => draws.sign() * size,
                 9 => draws.sign() * 0.0,
-                _ => match draws.whole(1, 5) {
-                    1 => draws.sign() * f32::from_bits(draws.whole(0, 1 << 24) as u32),
-                    2 => draws.sign() * draws.power_of_ten(),
-                    3 => draws.sign() / draws.power_of_ten(),
-                    4 => draws.sign() * 0.0,
-                    _ => draws.between(-1.0, 1.0),
-                },
+                _ => draws.of_any_size(),
             };
         }
         model
@@ -318,6 +313,11 @@ impl Maker {
 
     /// A small network, sound but for some of the grids.
     fn sound(&mut self) -> Configuration {
+        self.sound_on(Maker::grid)
+    }
+
+    /// The same on a grid that is drawn in this way.
+    fn sound_on(&mut self, grid: fn(&mut Maker) -> Grid) -> Configuration {
         loop {
             let layers = match self.draws.whole(1, 20) {
                 1..=8 => 1,
@@ -327,8 +327,7 @@ impl Maker {
             };
             let widest = if self.once_in(15) { 16 } else { 4 };
             let widths: Vec<usize> = (0..=layers).map(|_| self.whole(1, widest)).collect();
-            let grid = self.grid();
-            let config = Configuration::new(&widths, grid);
+            let config = Configuration::new(&widths, grid(self));
             if config.parameters() <= MOST_DRAWN {
                 return config;
             }

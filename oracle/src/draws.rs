@@ -52,6 +52,17 @@ impl Draws {
         }
     }
 
+    /// A finite number: subnormal or hardly more, huge, tiny, a zero, or an ordinary one.
+    pub fn of_any_size(&mut self) -> f32 {
+        match self.whole(1, 5) {
+            1 => self.sign() * f32::from_bits(self.whole(0, 1 << 24) as u32),
+            2 => self.sign() * self.power_of_ten(),
+            3 => self.sign() / self.power_of_ten(),
+            4 => self.sign() * 0.0,
+            _ => self.between(-1.0, 1.0),
+        }
+    }
+
     pub fn sign(&mut self) -> f32 {
         if self.word() % 2 == 0 {
             1.0

@@ -1,7 +1,7 @@
 //! One call on a model image with everything that is lent to it: before, after, and what two ends of it differ in.
 
-use crate::calls::{bits, cells, compare};
-use crate::compared::{Column, Compared, Line, DEFAULT_4};
+use crate::calls::{bits, cells};
+use crate::compared::{Column, Compared, Differences, Line, Names, DEFAULT_4};
 use crate::lent::Lent;
 use crate::nans::{fill, first_not_finite, NanAt};
 use crate::ported::Grid;
@@ -111,27 +111,24 @@ impl Compared for ImageCall {
         self
     }
 
-    fn differences(&self, reading: &ImageCall) -> Vec<String> {
-        let mut lines = Vec::new();
-        if self.number != reading.number {
-            let (proved, read) = (self.number, reading.number);
-            lines.push(format!("number: proved {proved}, reading {read}"));
-        }
+    fn differences(&self, other: &ImageCall, names: Names) -> Vec<String> {
+        let mut lines = Differences::new(names);
+        lines.compare_numbers(self.number, other.number);
         let numbers = [
-            ("carried", &self.carried, &reading.carried),
-            ("intervals", &self.intervals, &reading.intervals),
-            ("width count", &self.width_count, &reading.width_count),
-            ("parameters", &self.parameters, &reading.parameters),
-            ("widths", &self.widths, &reading.widths),
+            ("carried", &self.carried, &other.carried),
+            ("intervals", &self.intervals, &other.intervals),
+            ("width count", &self.width_count, &other.width_count),
+            ("parameters", &self.parameters, &other.parameters),
+            ("widths", &self.widths, &other.widths),
         ];
-        for (name, proved, read) in numbers {
-            compare(&mut lines, name, proved, read);
+        for (name, own, others) in numbers {
+            lines.compare(name, own, others);
         }
-        for ((name, proved), (_, read)) in self.floats().into_iter().zip(reading.floats()) {
-            compare(&mut lines, name, proved, read);
+        for ((name, own), (_, others)) in self.floats().into_iter().zip(other.floats()) {
+            lines.compare(name, own, others);
         }
-        compare(&mut lines, "image", &self.image, &reading.image);
-        lines
+        lines.compare("image", &self.image, &other.image);
+        lines.all()
     }
 
     fn answer(&self) -> (u32, usize) {

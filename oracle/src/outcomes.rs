@@ -1,32 +1,44 @@
 //! How often each call gave each number, and the differences between the archive and the reading.
 
-use crate::compared::{line_name, lines_in_order, Column, Compared, Line, LINES};
+use crate::compared::{line_name, lines_in_order, Compared, Line, Names, LINES};
 use crate::kept::Kept;
 use crate::settled::Settled;
+use std::collections::BTreeMap;
 
 /// Differences that are printed.
 const SHOWN: usize = 10;
+const BOTH_WAYS: Names = ["proved", "reading"];
 
 pub struct Outcomes<C: Compared> {
     kinds: &'static [C::Kind],
+    /// Whether a call of a kind can end on a line.
+    gives: fn(C::Kind, Line) -> bool,
     /// The call as the archive makes it.
     made: fn(C) -> C,
     /// For each kind, how often each line was met.
     counts: Vec<[u64; LINES]>,
     kept: Kept,
     steps: u64,
+    /// How often rounds met what they look for.
+    met: BTreeMap<&'static str, u64>,
     different: u64,
     shown: Vec<String>,
 }
 
 impl<C: Compared> Outcomes<C> {
-    pub fn new(kinds: &'static [C::Kind], made: fn(C) -> C) -> Self {
+    pub fn new(
+        kinds: &'static [C::Kind],
+        gives: fn(C::Kind, Line) -> bool,
+        made: fn(C) -> C,
+    ) -> Self {
         Outcomes {
             kinds,
+            gives,
             made,
             counts: vec![[0; LINES]; kinds.len()],
             kept: Kept::new(kinds.len()),
             steps: 0,
+            met: BTreeMap::new(),
             different: 0,
             shown: Vec::new(),
         }
@@ -41,7 +53,7 @@ impl<C: Compared> Outcomes<C> {
         let column = column.expect("a kind of this table");
         self.counts[column][read.line()] += 1;
         self.steps += read.steps();
-        let mut differences = proved.differences(&read);
+        let mut differences = proved.differences(&read, BOTH_WAYS);
         differences.extend(self.kept.count(column, read.line(), call, &proved));
         if !differences.is_empty() {
             self.differ(call, at, differences);
@@ -57,12 +69,17 @@ impl<C: Compared> Outcomes<C> {
         }
     }
 
-    fn differ(&mut self, call: &C, at: impl FnOnce() -> String, lines: Vec<String>) {
+    /// Counts a call that is not as it should be, and keeps the lines that say so.
+    pub fn differ(&mut self, call: &C, at: impl FnOnce() -> String, lines: Vec<String>) {
         self.different += 1;
         if self.shown.len() < SHOWN {
             let lines = lines.join("\n    ");
             self.shown.push(format!("{}: {call}    {lines}", at()));
         }
+    }
+
+    pub fn meet(&mut self, sight: &'static str) {
+        *self.met.entry(sight).or_default() += 1;
     }
 
     /// Takes over what was counted elsewhere.
@@ -74,6 +91,9 @@ impl<C: Compared> Outcomes<C> {
         }
         self.kept.absorb(other.kept);
         self.steps += other.steps;
+        for (sight, more) in other.met {
+            *self.met.entry(sight).or_default() += more;
+        }
         self.different += other.different;
         self.shown.extend(other.shown);
         self.shown.truncate(SHOWN);
@@ -91,6 +111,10 @@ impl<C: Compared> Outcomes<C> {
         self.steps
     }
 
+    pub fn met(&self, sight: &str) -> u64 {
+        self.met.get(sight).copied().unwrap_or(0)
+    }
+
     pub fn different(&self) -> u64 {
         self.different
     }
@@ -100,8 +124,8 @@ impl<C: Compared> Outcomes<C> {
         println!("{:<12}{}", "number", heads.collect::<String>());
         for line in self.lines() {
             let columns = self.kinds.iter().zip(&self.counts);
-            let counts = columns.map(|(kind, counts)| match counts[line] {
-                0 if !kind.gives(line) => format!("{:>11}", "-"),
+            let counts = columns.map(|(&kind, counts)| match counts[line] {
+                0 if !(self.gives)(kind, line) => format!("{:>11}", "-"),
                 count => format!("{count:>11}"),
             });
             println!("{:<12}{}", line_name(line), counts.collect::<String>());
@@ -119,9 +143,9 @@ impl<C: Compared> Outcomes<C> {
     /// Names what should have come and did not; whether there is any.
     pub fn print_missing(&self) -> bool {
         let mut missing = false;
-        for (kind, counts) in self.kinds.iter().zip(&self.counts) {
+        for (&kind, counts) in self.kinds.iter().zip(&self.counts) {
             for line in self.lines() {
-                if kind.gives(line) && counts[line] == 0 {
+                if (self.gives)(kind, line) && counts[line] == 0 {
                     println!("no {kind} gave {}", line_name(line));
                     missing = true;
                 }
@@ -134,7 +158,7 @@ impl<C: Compared> Outcomes<C> {
     fn lines(&self) -> impl Iterator<Item = Line> + '_ {
         lines_in_order().filter(|&line| {
             let mut columns = self.kinds.iter().zip(&self.counts);
-            columns.any(|(kind, counts)| kind.gives(line) || counts[line] > 0)
+            columns.any(|(&kind, counts)| (self.gives)(kind, line) || counts[line] > 0)
         })
     }
 }

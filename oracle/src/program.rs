@@ -1,12 +1,12 @@
 //! One run of a program that compares calls: the chosen ones, then drawn ones, counted and printed.
 
-use crate::compared::Compared;
+use crate::compared::{Compared, Line};
 use crate::drawn_calls::Maker;
 use crate::models::demand_exact;
 use crate::nans::{chosen, demand_kept};
 use crate::outcomes::Outcomes;
 use crate::ported::demand_e;
-use crate::rounds::{Compare, Round};
+use crate::rounds::{Comparison, Round};
 use crate::settled::Chosen;
 use std::process::ExitCode;
 use std::thread;
@@ -19,10 +19,14 @@ const ENOUGH_ROUNDS: u64 = 2000;
 /// What tells one program from another.
 pub struct Program<C: Compared> {
     pub kinds: &'static [C::Kind],
-    /// The chosen calls; the large ones too where they are asked for.
-    pub chosen: fn(bool) -> Chosen<C>,
+    /// Whether a call of a kind can end on a line here; then one does so in every long run.
+    pub gives: fn(C::Kind, Line) -> bool,
+    /// The chosen calls; the large ones too where they are asked for. Nothing where other programs make them.
+    pub chosen: Option<fn(bool) -> Chosen<C>>,
     /// Draws the calls of one round and has each of them compared.
-    pub round: fn(&mut Maker, Round, Compare<C>),
+    pub round: fn(&mut Maker, &mut Comparison<C>),
+    /// What rounds look for besides: every long run meets it.
+    pub sights: &'static [&'static str],
     /// The call as the archive makes it.
     pub made: fn(C) -> C,
 }
@@ -87,7 +91,7 @@ impl<C: Compared + 'static> Program<C> {
         let start = Instant::now();
         let mut outcomes = self.chosen_calls(arguments.large);
         let (chosen, chosen_nans) = (outcomes.calls(), outcomes.kept().all());
-        let no_nan = outcomes.kept().print_missing(self.kinds);
+        let no_nan = self.chosen.is_some() && outcomes.kept().print_missing(self.kinds);
         let chosen_time = start.elapsed().as_secs_f64();
         let start = Instant::now();
         for part in self.drawn_in_threads(arguments) {
@@ -104,16 +108,36 @@ impl<C: Compared + 'static> Program<C> {
         if outcomes.steps() > 0 {
             println!("{} training steps", outcomes.steps());
         }
+        for sight in self.sights {
+            println!("{} {sight}", outcomes.met(sight));
+        }
         println!("{} differences", outcomes.different());
-        let no_answer = arguments.rounds >= ENOUGH_ROUNDS && outcomes.print_missing();
-        (outcomes, no_nan || no_answer)
+        let is_long = arguments.rounds >= ENOUGH_ROUNDS;
+        let no_answer = is_long && outcomes.print_missing();
+        let no_sight = is_long && self.print_unseen(&outcomes);
+        (outcomes, no_nan || no_answer || no_sight)
+    }
+
+    /// Names what no round met; whether there is any.
+    fn print_unseen(&self, outcomes: &Outcomes<C>) -> bool {
+        let sights = self.sights.iter();
+        let unseen: Vec<_> = sights.filter(|sight| outcomes.met(sight) == 0).collect();
+        for sight in &unseen {
+            println!("no {sight}");
+        }
+        !unseen.is_empty()
+    }
+
+    fn outcomes(&self) -> Outcomes<C> {
+        Outcomes::new(self.kinds, self.gives, self.made)
     }
 
     /// Each chosen call as it is, and again with NaN in what it leaves alone, so often that every cell has held one of each
     /// kind: quiet and signalling, of both signs. Large ones are made with one quiet and one signalling at most.
     fn chosen_calls(&self, large: bool) -> Outcomes<C> {
-        let mut outcomes = Outcomes::new(self.kinds, self.made);
-        for (place, settled) in (self.chosen)(large).enumerate() {
+        let mut outcomes = self.outcomes();
+        let chosen_calls = self.chosen.into_iter().flat_map(|chosen| chosen(large));
+        for (place, settled) in chosen_calls.enumerate() {
             outcomes.compare_settled(&settled, || format!("chosen call {place}"));
             let times = if settled.is_large() { 2 } else { 4 };
             for passed in 0..times {
@@ -141,14 +165,16 @@ impl<C: Compared + 'static> Program<C> {
     }
 
     fn drawn(&self, seed: u64, first: u64, rounds: u64) -> Outcomes<C> {
-        let mut outcomes = Outcomes::new(self.kinds, self.made);
+        let mut outcomes = self.outcomes();
         let mut maker = Maker::new();
         let mut number = first;
         while number < rounds {
-            let at = || format!("seed {seed} round {number}");
-            (self.round)(&mut maker, Round { seed, number }, &mut |call| {
-                outcomes.compare(call, at)
-            });
+            let mut comparison = Comparison {
+                round: Round { seed, number },
+                outcomes: &mut outcomes,
+                printed: false,
+            };
+            (self.round)(&mut maker, &mut comparison);
             number += THREADS;
         }
         outcomes
@@ -156,14 +182,13 @@ impl<C: Compared + 'static> Program<C> {
 
     /// The calls of one round, with all arguments; nothing is missing among them.
     fn one_round(&self, round: Round) -> (Outcomes<C>, bool) {
-        let mut outcomes = Outcomes::new(self.kinds, self.made);
-        (self.round)(&mut Maker::new(), round, &mut |call| {
-            print!("{call}");
-            let read = outcomes.compare(call, || "here".to_owned());
-            let (number, carried) = read.answer();
-            println!("    reading {number} carrying {carried}");
-            read
-        });
+        let mut outcomes = self.outcomes();
+        let mut comparison = Comparison {
+            round,
+            outcomes: &mut outcomes,
+            printed: true,
+        };
+        (self.round)(&mut Maker::new(), &mut comparison);
         outcomes.print_differences();
         (outcomes, false)
     }

@@ -114,6 +114,18 @@ fn chain(domain: (f32, f32), edges: &[[f32; 7]]) -> Model {
     }
 }
 
+/// D87: at 1, the second edge reads a number so close to its middle knot that a value is zero and its slope is not.
+fn beside_a_knot() -> Model {
+    let plain = [0.0, 1.0, 0.0, 0.0, 0.0, 0.0, 0.0];
+    let mut model = chain((-1.0, 1.0), &[plain; 2]);
+    (model.parameters[0], model.parameters[7]) = (2e-16, 0.5);
+    model
+}
+
+/// Where the second edge of that model has the coefficient which such a slope marks, and the first one, which nothing marks.
+const MARKED_BY_SLOPE: usize = 13;
+const UNMARKED: usize = 9;
+
 /// Most intervals, the widest and the deepest: 250,000 parameters or hardly fewer.
 fn largest_models() -> [Model; 4] {
     let deep = vec![1; 41_667];
@@ -135,6 +147,12 @@ fn initial(widths: &[usize], grid: Grid, seed: u64) -> Model {
 }
 
 impl Model {
+    /// The model with another number at this place.
+    fn edited(mut self, place: usize, number: f32) -> Self {
+        self.parameters[place] = number;
+        self
+    }
+
     fn call(&self, kind: Kind) -> Call {
         let mut call = Call::new(kind, &self.config.widths, self.config.grid);
         call.model = Lent::new(&self.parameters);

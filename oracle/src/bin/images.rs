@@ -1,6 +1,7 @@
 //! Compares the estimator's model images through C linkage (`libestimator.a`) with the rules' reading: every byte
 //! written, what is read of good and of damaged images, the number of refusal, what it carries, and all lent memory.
 
+use kan_oracle::compared::Column;
 use kan_oracle::drawn_calls::Maker;
 use kan_oracle::image_calls::KINDS;
 use kan_oracle::program::Program;
@@ -10,8 +11,10 @@ use std::process::ExitCode;
 fn main() -> ExitCode {
     let program = Program {
         kinds: &KINDS,
-        chosen: settled_images,
+        gives: Column::gives,
+        chosen: Some(settled_images),
         round: Maker::images_round,
+        sights: &[],
         made: proved::made,
     };
     program.run()

@@ -41,7 +41,8 @@ const IMAGES_HEADER: &str = "\
 
 const VISITS_HEADER: &str = "\
 # Settled cases of the visit map, with all that the call leaves in what it is lent. Made by `oracle/lists.sh`: the answers are
-# those of docs/RULES.md, R12.1 to R12.4 (D81 to D88 name cases), held to a reading over the ported Rust's basis values.
+# those of docs/RULES.md, R12.1 to R12.4 (D81 to D88 and B41a name cases), held to a reading over the ported Rust's basis values
+# and slopes.
 # A line is a tag and lower-case hexadecimal words; f32 numbers are their bits. A configuration is K w0 .. w(K-1) g lo hi. A list
 # is its length and then its numbers. A call that is accepted has number 0.
 # V configuration model inputs A B N number carried first second map    the A and B numbers of the two work slices are 9.0 before,

@@ -4,7 +4,7 @@ use kan_oracle::bits::{beside, hex};
 use kan_oracle::exponential::{exponential, table};
 use kan_oracle::nans::demand_kept;
 use kan_oracle::ported::{demand_e, root, silu, silu_derivative, Grid};
-use kan_oracle::reading::visits::{is_visited, Rule};
+use kan_oracle::reading::visits::is_visited;
 
 /// A function, and bits of arguments and answers.
 type Row = (&'static str, fn(f32) -> f32, &'static [(u32, u32)]);
@@ -130,19 +130,17 @@ fn check_grids() {
     assert!(accepted(1000, -1.7e38, 1.7e38) && !accepted(3, -1.7e38, 1.7e38));
 }
 
-/// Where the last value is zero and its slope is not, and where slopes are infinite or NaN.
+/// Where the last value is zero and its slope is not, outside the knots, and where slopes are infinite or NaN.
 fn check_marks() {
-    let marks = |rule: Rule, grid: Grid, x: f32| {
+    let marks = |grid: Grid, x: f32| {
         let basis = grid.basis(x);
-        [0, 1, 2, 3, 4].map(|coefficient| u8::from(is_visited(rule, &basis, coefficient)))
+        [0, 1, 2, 3, 4].map(|coefficient| u8::from(is_visited(&basis, coefficient)))
     };
     let (usual, narrow) = (Grid::new(2, -1.0, 1.0), Grid::new(2, 0.0, 2e-40));
-    assert_eq!(marks(Rule::Value, usual, 1e-16), [0, 1, 1, 1, 0]);
-    assert_eq!(marks(Rule::ValueOrSlope, usual, 1e-16), [0, 1, 1, 1, 1]);
-    assert_eq!(marks(Rule::Value, usual, 4.0), [0; 5]);
-    assert_eq!(marks(Rule::ValueOrSlope, usual, 4.0), [0; 5]);
-    assert_eq!(marks(Rule::Value, narrow, 0.0), [1, 1, 1, 0, 0]);
-    assert_eq!(marks(Rule::ValueOrSlope, narrow, 0.0), [1, 1, 1, 0, 0]);
+    assert_eq!(marks(usual, 0.0), [0, 1, 1, 1, 0]);
+    assert_eq!(marks(usual, 1e-16), [0, 1, 1, 1, 1]);
+    assert_eq!(marks(usual, 4.0), [0; 5]);
+    assert_eq!(marks(narrow, 0.0), [1, 1, 1, 0, 0]);
 }
 
 fn words(numbers: &[f32]) -> String {

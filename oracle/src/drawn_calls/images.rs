@@ -5,7 +5,7 @@ use crate::image_calls::{ImageCall, Kind};
 use crate::lent::Lent;
 use crate::reading::images::{self, Word, TRAILER};
 use crate::reading::{Configuration, STUCK_INTERVALS};
-use crate::rounds::{Compare, Round};
+use crate::rounds::Comparison;
 
 /// Damaged copies of each image, each of them read.
 const COPIES: u64 = 24;
@@ -51,11 +51,11 @@ const CHOSEN_WORDS: [u32; 22] = [
 
 impl Maker {
     /// A model written, then damaged copies of a sound image of it read and unpacked.
-    pub fn images_round(&mut self, round: Round, compare: Compare<ImageCall>) {
-        self.begin(round, 0);
+    pub fn images_round(&mut self, comparison: &mut Comparison<ImageCall>) {
+        self.begin(comparison.round, 0);
         let sound = self.sound_image_config();
         let write = self.write_call(&sound);
-        compare(&self.with_nans(write));
+        comparison.compare(&self.with_nans(write));
         let model = self.parameters(&sound);
         let good = images::image(&sound, &model);
         for copy in 0..COPIES {
@@ -63,10 +63,10 @@ impl Maker {
             let image = self.lend_image(&bytes);
             if copy < UNPACKED {
                 let unpack = self.unpack_call(image.clone(), &sound);
-                compare(&self.with_nans(unpack));
+                comparison.compare(&self.with_nans(unpack));
             }
             let read = ImageCall::new(Kind::Read, image);
-            compare(&self.with_nans(read));
+            comparison.compare(&self.with_nans(read));
         }
     }
 

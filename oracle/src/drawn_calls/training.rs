@@ -3,7 +3,7 @@
 use super::{Maker, NOT_FINITE};
 use crate::calls::{Call, Kind};
 use crate::reading::Configuration;
-use crate::rounds::{Compare, Round};
+use crate::rounds::Comparison;
 
 /// Large models take fewer steps, as each costs time.
 const MOST_STEPS: usize = 60;
@@ -11,14 +11,14 @@ const MOST_STEPPED: usize = 6000;
 
 impl Maker {
     /// One drawn training, at once and then step by step, until it is refused or all steps are made.
-    pub fn training_round(&mut self, round: Round, compare: Compare<Call>) {
-        let train = self.call(Kind::Train, round);
-        let at_once = compare(&train);
+    pub fn training_round(&mut self, comparison: &mut Comparison<Call>) {
+        let train = self.call(Kind::Train, comparison.round);
+        let at_once = comparison.compare(&train);
         let mut step = train.clone();
         step.kind = Kind::TrainStep;
         let mut done = 0;
         while done < train.steps.max(1) {
-            let read = compare(&step);
+            let read = comparison.compare(&step);
             if read.number != 0 {
                 break;
             }
@@ -86,7 +86,7 @@ impl Maker {
     }
 
     /// Good rates of all sizes, and bad ones.
-    fn rate(&mut self) -> f32 {
+    pub(super) fn rate(&mut self) -> f32 {
         let bad = self.any_of(&[0.0, -0.0, -1.0, -1e-45]);
         let far = self.any_of(&[1e-45, 1e-40, f32::MIN_POSITIVE, 3e38, f32::MAX]);
         let not_finite = self.any_of(&NOT_FINITE);

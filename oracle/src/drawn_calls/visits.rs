@@ -4,12 +4,19 @@ use super::Maker;
 use crate::calls::{Call, Kind};
 use crate::lent::Lent;
 use crate::reading::Configuration;
-use crate::rounds::{Compare, Round};
+use crate::rounds::Comparison;
+
+/// Without such maps a run would not tell the rule from one that asks for values alone.
+pub const MARKED_BY_SLOPE: &str = "accepted maps mark a coefficient by its slope alone";
 
 impl Maker {
     /// One drawn map.
-    pub fn visits_round(&mut self, round: Round, compare: Compare<Call>) {
-        compare(&self.call(Kind::Visits, round));
+    pub fn visits_round(&mut self, comparison: &mut Comparison<Call>) {
+        let call = self.call(Kind::Visits, comparison.round);
+        let read = comparison.compare(&call);
+        if read.number == 0 && !read.marked_by_slope().is_empty() {
+            comparison.meet(MARKED_BY_SLOPE);
+        }
     }
 
     pub(super) fn visits(&mut self, call: &mut Call, sound: &Configuration) {

@@ -6,24 +6,17 @@ use crate::models;
 use crate::network::kan::Kan;
 use crate::ported::Basis;
 
-/// By what a coefficient counts as visited.
-#[derive(Clone, Copy)]
-pub enum Rule {
-    Value,
-    ValueOrSlope,
+/// Whether a coefficient counts as read, by the basis at a number that its edge reads.
+type Rule = fn(&Basis, usize) -> bool;
+
+/// R12.3: its basis value or its slope is not zero. -0.0 is zero, infinities and NaN are not.
+pub fn is_visited(basis: &Basis, coefficient: usize) -> bool {
+    has_value(basis, coefficient) || basis.slopes[coefficient] != 0.0
 }
 
-/// The rule that the estimator follows.
-pub const RULE: Rule = Rule::Value;
-
-/// R12.3: a coefficient is 1 when its basis value is not zero at some number its edge reads. -0.0 is zero, NaN is not.
-pub fn is_visited(rule: Rule, basis: &Basis, coefficient: usize) -> bool {
-    let by_value = basis.values[coefficient] != 0.0;
-    let by_slope = basis.slopes[coefficient] != 0.0;
-    match rule {
-        Rule::Value => by_value,
-        Rule::ValueOrSlope => by_value || by_slope,
-    }
+/// What prediction alone would ask: tells the marks that come from slopes.
+fn has_value(basis: &Basis, coefficient: usize) -> bool {
+    basis.values[coefficient] != 0.0
 }
 
 /// R12.4: the checks of prediction, the row carried too.
@@ -63,11 +56,38 @@ fn map_rows(
             return Err(Refusal { number, carried });
         }
     }
+    mark_rows(config, model, rows, is_visited, map);
+    Ok(())
+}
+
+/// The places of coefficients that an accepted map marks by their slopes alone: at no number have they a value.
+pub fn marked_by_slope(
+    config: &Configuration,
+    model: &[f32],
+    inputs: &[f32],
+    map: &[u8],
+) -> Vec<usize> {
+    let rows = rows(inputs, config.input_width());
+    let mut by_value = vec![0; map.len()];
+    mark_rows(config, model, rows, has_value, &mut by_value);
+    let places = 0..map.len();
+    places
+        .filter(|&place| map[place] != by_value[place])
+        .collect()
+}
+
+/// Marks all that accepted rows visit.
+fn mark_rows(
+    config: &Configuration,
+    model: &[f32],
+    rows: Vec<Vec<f32>>,
+    rule: Rule,
+    map: &mut [u8],
+) {
     let layers = layers(config, model);
     for input in rows {
-        mark(config, &layers, input, map);
+        mark(config, &layers, input, rule, map);
     }
-    Ok(())
 }
 
 /// Each layer as a network of its own, to answer what the next one reads.
@@ -84,7 +104,7 @@ fn layers(config: &Configuration, model: &[f32]) -> Vec<Kan> {
 }
 
 /// Marks all that one row visits. R12.2: weights are 1 if there is any row.
-fn mark(config: &Configuration, layers: &[Kan], input: Vec<f32>, map: &mut [u8]) {
+fn mark(config: &Configuration, layers: &[Kan], input: Vec<f32>, rule: Rule, map: &mut [u8]) {
     let per_edge = config.grid.intervals + 5;
     let mut nodes = input;
     let mut edges = map.chunks_mut(per_edge);
@@ -95,7 +115,7 @@ fn mark(config: &Configuration, layers: &[Kan], input: Vec<f32>, map: &mut [u8])
             for (basis, edge) in bases.iter().zip(&mut edges) {
                 edge[..2].fill(1);
                 for (coefficient, byte) in edge[2..].iter_mut().enumerate() {
-                    *byte |= u8::from(is_visited(RULE, basis, coefficient));
+                    *byte |= u8::from(rule(basis, coefficient));
                 }
             }
         }

@@ -1,7 +1,8 @@
 //! Chosen calls of training.
 
-use super::{base, chain, edge, fan, grouped, infinite, largest_models, pair, settled, writes};
-use super::{with_faults, Group, Model, NAN, OLD_WORK};
+use super::{base, beside_a_knot, chain, edge, fan, infinite, largest_models, pair};
+use super::{grouped, settled, with_faults, writes, Group, Model};
+use super::{MARKED_BY_SLOPE, NAN, OLD_WORK, UNMARKED};
 use crate::calls::{bits, Call, Kind};
 use crate::lent::Lent;
 use crate::reading::MOST_TARGETS;
@@ -18,6 +19,7 @@ pub fn settled_training(large: bool) -> Chosen<Call> {
         later_refusals,
         infinite_slopes,
         slopes_beside_zero,
+        zero_slopes,
         largest_networks,
         many_targets,
     ];
@@ -228,22 +230,37 @@ fn infinite_slopes() -> Vec<Settled<Call>> {
     calls
 }
 
-/// The last coefficient meets a value of zero and a slope that is not: the first edge's step depends on it.
-pub(super) fn slopes_beside_zero() -> Vec<Settled<Call>> {
-    let (first, last) = (
-        [2e-16, 1.0, 0.0, 0.0, 0.0, 0.0, 0.0],
-        [0.5, 1.0, 0.0, 0.0, 0.0, 0.0],
-    );
-    let weak = [
-        0x3e3b_26a8,
+/// A step of D87's model with this coefficient, which stays as it is; the first edge moves to these parameters.
+fn steps_beside_a_knot(place: usize, coefficient: f32, first: [u64; 7]) -> [Settled<Call>; 2] {
+    let second = [
+        0x3f00_0000,
         0x3f80_0000,
         0,
-        0,
-        0x3d2a_aaab,
         0x3e2a_aaab,
-        0x3d2a_aaab,
+        0x3f2a_aaab,
+        0x3e2a_aaab,
+        0,
     ];
-    let strong = [
+    let model = beside_a_knot().edited(place, coefficient);
+    let mut after_one = [first, second].concat();
+    after_one[place] = u64::from(coefficient.to_bits());
+    steps_to(model.train(&[1.0], &[1.0], 1, 0.5), &after_one)
+}
+
+/// The first edge of D87's model after a step.
+const MOVED: [u64; 7] = [
+    0x3e3b_26a8,
+    0x3f80_0000,
+    0,
+    0,
+    0x3d2a_aaab,
+    0x3e2a_aaab,
+    0x3d2a_aaab,
+];
+
+/// The last coefficient meets a value of zero and a slope that is not: the first edge's step depends on it.
+pub(super) fn slopes_beside_zero() -> Vec<Settled<Call>> {
+    let moved_far = [
         0x493e_c6fd,
         0x3f80_0000,
         0,
@@ -252,24 +269,18 @@ pub(super) fn slopes_beside_zero() -> Vec<Settled<Call>> {
         0x492d_f93b,
         0x482d_f93b,
     ];
-    let second = [
-        0x3f00_0000,
-        0x3f80_0000,
-        0,
-        0x3e2a_aaab,
-        0x3f2a_aaab,
-        0x3e2a_aaab,
-    ];
-    let mut calls = Vec::new();
-    for (coefficient, moved) in [(0.0_f32, weak), (1e38, strong)] {
-        let mut model = chain((-1.0, 1.0), &[first, [0.0; 7]]);
-        model
-            .parameters
-            .splice(7.., last.into_iter().chain([coefficient]));
-        let after_one = [&moved[..], &second, &[u64::from(coefficient.to_bits())]].concat();
-        calls.extend(steps_to(model.train(&[1.0], &[1.0], 1, 0.5), &after_one));
-    }
-    calls
+    [(0.0, MOVED), (1e38, moved_far)]
+        .into_iter()
+        .flat_map(|(number, first)| steps_beside_a_knot(MARKED_BY_SLOPE, number, first))
+        .collect()
+}
+
+/// Another coefficient meets a value and a slope of zero: no step depends on it.
+pub(super) fn zero_slopes() -> Vec<Settled<Call>> {
+    [1e38, -0.0]
+        .into_iter()
+        .flat_map(|number| steps_beside_a_knot(UNMARKED, number, MOVED))
+        .collect()
 }
 
 fn largest_networks() -> Vec<Settled<Call>> {

@@ -1,10 +1,9 @@
 //! Chosen calls of the visit map.
 
-use super::training::slopes_beside_zero;
-use super::{
-    base, chain, grouped, headed, infinite, initial, largest_models, pair, settled, writes,
-};
-use super::{Group, Model, FAULTY, NAN};
+use super::training::{slopes_beside_zero, zero_slopes};
+use super::{base, beside_a_knot, chain, infinite, initial, largest_models, pair};
+use super::{grouped, headed, settled, writes, Group, Model};
+use super::{FAULTY, MARKED_BY_SLOPE, NAN, UNMARKED};
 use crate::calls::{Call, Kind};
 use crate::lent::Lent;
 use crate::ported::Grid;
@@ -12,17 +11,26 @@ use crate::settled::{Chosen, Settled};
 
 const OLD_MARK: u8 = 7;
 
-const SMALL: &[Group<Call>] = &[marks, refusals, faulty_configurations, unlike_slopes];
-
 /// All chosen calls of the program `visits`; none is large.
 pub fn settled_visits(large: bool) -> Chosen<Call> {
-    const UNSTORED: &[Group<Call>] = &[outside_infinite_knots, largest_networks];
-    Box::new(grouped(SMALL, &[], false).chain(grouped(UNSTORED, &[], large)))
+    let maps = stored_visits().filter(|settled| settled.call.kind == Kind::Visits);
+    Box::new(maps.chain(grouped(&[largest_networks], &[], large)))
 }
 
-/// Those of them that are stored as cases of the program `model_vectors`, and the training that two of them speak of.
+/// Those of them that are stored as cases of the program `model_vectors`, and the training that some of them speak of.
 pub fn stored_visits() -> Chosen<Call> {
-    Box::new(grouped(SMALL, &[], false).chain(grouped(&[trained_slopes], &[], false)))
+    const STORED: &[Group<Call>] = &[
+        marks,
+        refusals,
+        faulty_configurations,
+        marked_by_slope,
+        trained_by_slope,
+        unmarked,
+        trained_unmarked,
+        unlike_slopes,
+        outside_infinite_knots,
+    ];
+    grouped(STORED, &[], false)
 }
 
 impl Model {
@@ -55,17 +63,18 @@ fn marks() -> Vec<Settled<Call>> {
     let (zero, two) = (base(0.0), pair());
     let at = |x: f32, map: &[u64]| maps(zero.visits(&[x]), map);
     let middle = [1, 1, 0, 1, 1, 1, 0];
+    let beside = [1, 1, 0, 1, 1, 1, 1];
     let outside = [1, 1, 0, 0, 0, 0, 0];
     let rows = maps(zero.visits(&[4.0, 0.0, -5.0]), &middle);
     let (left, right) = ([middle, outside].concat(), [outside, middle].concat());
     all_headed(vec![
         (
-            "Z at 0: the first basis value and the last are 0 there",
+            "Z at 0: the first basis value and the last are 0 there, and so are their slopes",
             at(0.0, &middle),
         ),
         (
-            "D81: Z at 1e-16: the last basis value rounds to 0, though its slope is not 0",
-            at(1e-16, &middle),
+            "D81: Z at 1e-16: the last basis value rounds to 0, and its slope, which is not 0, marks it",
+            at(1e-16, &beside),
         ),
         (
             "D82: Z at 4 and at -4, outside all knots: the weights alone",
@@ -167,22 +176,66 @@ fn faulty_configurations() -> Vec<Settled<Call>> {
     )
 }
 
+/// The marks of D87's model at 1.
+const BESIDE_A_KNOT: [u64; 14] = [1, 1, 0, 0, 1, 1, 1, 1, 1, 0, 1, 1, 1, 1];
+
+/// D87's model with another number at this place: the map is the same.
+fn maps_beside_a_knot(place: usize, number: f32) -> Settled<Call> {
+    let model = beside_a_knot().edited(place, number);
+    maps(model.visits(&[1.0]), &BESIDE_A_KNOT)
+}
+
+fn marked_by_slope() -> Vec<Settled<Call>> {
+    let calls = [0.0, 1e38].map(|number| maps_beside_a_knot(MARKED_BY_SLOPE, number));
+    headed(
+        "D87: [1, 1, 1], base weights 2e-16 and 0.5, at 1: the last coefficient, 0 or 1e38, is marked by its slope alone",
+        calls.into(),
+    )
+}
+
+fn trained_by_slope() -> Vec<Settled<Call>> {
+    headed(
+        "D87, a step of training and training of one step: the first parameter depends on the last, which the map marks",
+        slopes_beside_zero(),
+    )
+}
+
+fn unmarked() -> Vec<Settled<Call>> {
+    let calls = [1e38, -0.0].map(|number| maps_beside_a_knot(UNMARKED, number));
+    headed(
+        "D87 with the first coefficient of layer 1, which the map does not mark, 1e38 or -0.0: the same map",
+        calls.into(),
+    )
+}
+
+fn trained_unmarked() -> Vec<Settled<Call>> {
+    headed(
+        "The same, a step of training and training of one step: that coefficient stays, and all else becomes what D87's model becomes",
+        zero_slopes(),
+    )
+}
+
 /// A value of zero beside a slope that is not, and slopes that are infinite or NaN.
 fn unlike_slopes() -> Vec<Settled<Call>> {
     let plain = [0.0, 1.0, 0.0, 0.0, 0.0, 0.0, 0.0];
-    let small = [2e-16, 1.0, 0.0, 0.0, 0.0, 0.0, 0.0];
-    let half = [0.5, 1.0, 0.0, 0.0, 0.0, 0.0, 0.0];
-    let huge = [0.5, 1.0, 0.0, 0.0, 0.0, 0.0, 1e38];
     let narrow = chain((0.0, 2e-40), &[plain; 2]);
-    let marks = [1, 1, 0, 0, 1, 1, 1, 1, 1, 0, 1, 1, 1, 0];
-    let after = |layer: [f32; 7]| maps(chain((-1.0, 1.0), &[small, layer]).visits(&[1.0]), &marks);
+    let (lo, hi) = (f32::from_bits(0x77), f32::from_bits(0x87));
+    let subnormal = initial(&[1, 1], Grid::new(4, lo, hi), 0);
     all_headed(vec![
-        ("D87: [1, 1, 1], base weights 2e-16 and 0.5, at 1: the last coefficient, 0 or 1e38, is not touched", after(half)),
-        ("", after(huge)),
-        ("The same with base weight 0 in layer 1", after(plain)),
+        (
+            "D87 with base weight 0 in layer 1",
+            maps_beside_a_knot(7, 0.0),
+        ),
         (
             "D88: [1, 1, 1], domain [0, 2e-40], at 0: slopes are infinite or NaN, values are not",
             maps(narrow.visits(&[0.0]), &[1, 1, 1, 1, 1, 0, 0].repeat(2)),
+        ),
+        (
+            "[1, 1], g 4, domain 77 to 87 (bits), at 79: values 0 beside slopes of -infinity (the first) and infinity (the fourth)",
+            maps(
+                subnormal.visits(&[f32::from_bits(0x79)]),
+                &[1, 1, 1, 1, 1, 1, 0, 0, 0],
+            ),
         ),
     ])
 }
@@ -193,13 +246,9 @@ fn outside_infinite_knots() -> Vec<Settled<Call>> {
     let model = initial(&[1, 1], Grid::new(25, -half, half), 0);
     let mut marks = [0; 30];
     marks[..2].fill(1);
-    vec![maps(model.visits(&[-3e38]), &marks)]
-}
-
-fn trained_slopes() -> Vec<Settled<Call>> {
     headed(
-        "D87, a step of training and training of one step: the first parameter depends on the last, which the map does not mark",
-        slopes_beside_zero(),
+        "B41a: [1, 1], g 25, domain feffffff to 7effffff (bits), at -3e38, below knots of which the last are infinite: the weights alone",
+        vec![maps(model.visits(&[-3e38]), &marks)],
     )
 }
 

@@ -72,11 +72,12 @@
  * buffers to write. What a call only reads (const), they may share.
  *
  * Stack: every call fits in ESTIMATOR_STACK_BYTES, arguments and return
- * addresses included. The largest figures measured: 3,952 bytes for kan_train
- * and kan_train_step, 2,144 for kan_predict, kan_loss and kan_visits, 528 for
- * the others. So on a fibre of 4 KiB training leaves its caller 144 bytes,
- * prediction 1.9 KiB. The first call needs no more than later ones: memset, all
- * that the archive needs of the C library, is bound when the program is loaded.
+ * addresses included. The largest figures measured: 3,968 bytes for kan_train
+ * and kan_train_step, 2,336 for kan_visits, 2,144 for kan_predict and kan_loss,
+ * 528 for the others. So on a fibre of 4 KiB training leaves its caller 128
+ * bytes, prediction 1.9 KiB. The first call needs no more than later ones:
+ * memset, all that the archive needs of the C library, is bound when the program
+ * is loaded.
  * If you put the archive into a shared object, link its callers with
  * -Wl,-z,now: else their own calls of it are bound late, on the fibre.
  *

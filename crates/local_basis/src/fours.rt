@@ -71,6 +71,16 @@ pub fn slopes_at(mesh: Mesh, x: f32) -> Four
     placed(mesh.grid.intervals, at, rises(squares_of(mesh, x, at), at))
 }
 
+// For an input that no interval holds, and for who asks for neither.
+pub fn no_eight() -> Eight
+    ensures { λ r. ⌜ (r .values ≡ noFour) × (r .slopes ≡ noFour) ⌝ }
+{
+    Eight {
+        values: no_four(),
+        slopes: no_four(),
+    }
+}
+
 // Both by one search and one triangle.
 pub fn both_at(mesh: Mesh, x: f32) -> Eight
     requires { ⌜ Meshed mesh × (mesh .calm ≡ true) ⌝ }
@@ -78,10 +88,7 @@ pub fn both_at(mesh: Mesh, x: f32) -> Eight
 {
     let at = interval(mesh, x);
     if mesh.grid.intervals + 5 < at {
-        return Eight {
-            values: no_four(),
-            slopes: no_four(),
-        };
+        return no_eight();
     }
     let squares = squares_of(mesh, x, at);
     Eight {

@@ -1,4 +1,5 @@
 pub mod Touching
 pub mod Marking
+pub mod Rows
 pub mod Fours
 pub mod Layers

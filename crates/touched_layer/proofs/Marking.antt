@@ -2,7 +2,7 @@
 use mathlib.Core.Path.{_≡_, refl, ap, _∙_}
 use mathlib.Core.Bool.{Bool, true, false, cond}
 use mathlib.Core.List.{List, [], _∷_, _++_}
-use Prim.Native.Nat.{ℕ, zero, suc, _+_, _-_, _*_, _≤_, _<_}
+use Prim.Native.Nat.{ℕ, zero, suc, _+_, _-_, _≤_, _<_}
 use native.Mathlib.Nat.{le-of-suc-le-suc}
 use native.Mathlib.Numerals.{add-one}
 use native.Mathlib.Omega.{arith}
@@ -10,7 +10,7 @@ use lib.ListN.{length, take, drop, getD, set}
 use lib.Seq.{set-split, drop-cons}
 use borrow.Rule.Slice.PartMut.{putMid}
 use Rattle.floats.specs.Sums.{tabulate, flatTo}
-use Rattle.floats.proofs.Loops.{tab-length, flat-length, put-rest, room, rest, rest-length}
+use Rattle.floats.proofs.Loops.{tab-length, put-rest}
 use Rattle.touched_layer.specs.Marks.{markedBy}
 
 pub marked-length : (bs : List Bool) (ms : List ℕ) → length (markedBy bs ms) ≡ length ms
@@ -52,33 +52,9 @@ marked-part bs cs a d e y p q h r =
     let l : length bs ≤ length d = omega (arith, ap length p, marked-length bs d) in
     put-rest a e y h ∙ rw (r, ← q, p) (marked-append bs cs d l)
 
--- ---- a loop that lends the rest from the j-th of n parts on
 -- a map that was marked is as long as before
 pub marked-size : (bs : List Bool) (d e : List ℕ) → e ≡ markedBy bs d → length e ≡ length d
 marked-size bs d e p = ap length p ∙ marked-length bs d
-
--- in a turn: each part has s bytes, all have room, and those of j parts are marked
-pub record PartTurn (f : ℕ → List Bool) (s n j : ℕ) (d e : List ℕ) : Type 0 where
-  pub each : (i : ℕ) → length (f i) ≡ s
-  pub there : n * s ≤ length d
-  pub more : j < n
-  pub bytes : e ≡ markedBy (flatTo f j) d
-
-module _ {f : ℕ → List Bool} {s n j : ℕ} {d e : List ℕ} (t : PartTurn f s n j d e) where
-  -- the part lies in the map
-  pub part-in : j * s + s ≤ length e
-  part-in = rw (marked-size _ d e (t .bytes)) (room j n s (length d) (t .more) (t .there))
-
-  pub part-room : s ≤ length (take (length e - j * s) (drop (j * s) e))
-  part-room = rw rest-length (omega (arith, part-in))
-
-  -- a call has marked it
-  pub one-part : (y : List ℕ) → y ≡ markedBy (f j) (take (length e - j * s) (drop (j * s) e))
-      → putMid (j * s) (length e - j * s) e y ≡ markedBy (flatTo f (j + 1)) d
-  unfolding flatTo
-  one-part y r =
-      rw (add-one j) (marked-part (flatTo f j) (f j) (j * s) d e y (t .bytes) (flat-length f s (t .each) j)
-      (omega (arith, part-in)) (r ∙ ap (markedBy (f j)) (rest (j * s) e)))
 
 -- a turn that marks one byte
 pub marked-one : (t : ℕ → Bool) (k : ℕ) (d e : List ℕ) (y : ℕ) → e ≡ markedBy (tabulate t k) d → k < length d

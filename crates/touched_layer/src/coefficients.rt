@@ -8,7 +8,7 @@ ghost use Rattle.local_basis.specs.Meshes.{Meshed};
 ghost use Rattle.layers.specs.Basis.{Basis};
 ghost use Rattle.layers.specs.Net.{basisOf};
 ghost use Rattle.touched_layer.specs.Touched.{touches, touchesBy};
-ghost use Rattle.touched_layer.specs.Marks.{markedBy, markAt, fourMarked};
+ghost use Rattle.touched_layer.specs.Marks.{markedBy, markAt, fourMarked, Known};
 use local_basis::Eight;
 use local_basis::Mesh;
 use spline::Grid;
@@ -71,13 +71,13 @@ fn mark_four(eight: Eight, map: &mut [u8])
     mark_at(map, at + 3, values.fourth, slopes.fourth);
 }
 
-pub fn mark_coefficients(mesh: Mesh, x: f32, map: &mut [u8])
-    requires { ⌜ Meshed mesh × (mesh .grid .intervals + 3 ≤ length (now map)) ⌝ }
+pub fn mark_coefficients(mesh: Mesh, eight: Eight, x: f32, map: &mut [u8])
+    requires { ⌜ Meshed mesh × Known mesh x eight × (mesh .grid .intervals + 3 ≤ length (now map)) ⌝ }
     ensures { λ _. ⌜ now (map .exit) ≡ markedBy (tabulate (λ (k : ℕ). touches (basisOf (mesh .grid)) k x)
         (mesh .grid .intervals + 3)) (now (map .entry)) ⌝ }
 {
     if mesh.calm {
-        mark_four(local_basis::both_at(mesh, x), map);
+        mark_four(eight, map);
     } else {
         mark_plain(mesh.grid, x, map);
     }

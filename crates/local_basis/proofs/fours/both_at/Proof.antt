@@ -21,21 +21,18 @@ interval-requires c κs = search needs
 add-if1 : tie.Need-add-if1
 add-if1 c = search needs
 
-no-four-requires : tie.Need-no-four-requires
-no-four-requires c κs = search needs
-
-no-four-requires-2 : tie.Need-no-four-requires-2
-no-four-requires-2 c κs = search needs
+no-eight-requires : tie.Need-no-eight-requires
+no-eight-requires c κs = search needs
 
 returns : tie.Need-returns
 returns c =
-    let first = c .before in
-    let at = first .before .before .before in
-    let outside = first .before .if1 .taken in
+    let none = c .no-eight .ensures in
+    let at = c .before .before .before in
+    let outside = c .before .if1 .taken in
     record {
-      start = rw (c .no-four2 .ensures, first .no-four .ensures);
-      values = rw (first .no-four .ensures) (values-none (at .before .pre) (at .interval .ensures) outside);
-      slopes = rw (c .no-four2 .ensures) (slopes-none (at .before .pre) (at .interval .ensures) outside);
+      start = rw (none .0, none .1);
+      values = rw (none .0) (values-none (at .before .pre) (at .interval .ensures) outside);
+      slopes = rw (none .1) (slopes-none (at .before .pre) (at .interval .ensures) outside);
     }
 
 squares-of-requires : tie.Need-squares-of-requires
@@ -80,8 +77,7 @@ both-at-spec =
     (tie.spec
     interval-requires
     add-if1
-    no-four-requires
-    no-four-requires-2
+    no-eight-requires
     returns
     squares-of-requires
     cubes-requires

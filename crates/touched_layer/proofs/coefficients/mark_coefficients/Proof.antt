@@ -1,5 +1,6 @@
--- `touched_layer::mark_coefficients` meets its contract, by whichever of the two. Assumes nothing.
+-- `touched_layer::coefficients::mark_coefficients` meets its contract, by whichever of the two. Assumes nothing.
 use mathlib.Core.Path.{_∙_}
+use native.Mathlib.Omega.{arith}
 use Rattle.touched_layer.proofs.Fours.{four-marked}
 use borrow.Author.Needs.{needs}
 use Rattle.touched_layer.proofs.coefficients.mark_coefficients.Statement.{statement}
@@ -12,15 +13,10 @@ entry c = c .before .before
 abbrev by-four : tie.After-slice-known2 → tie.After-mark-four
 by-four c = c .before .before
 
-abbrev valued : tie.After-mark-four → tie.After-both-at
-valued c = c .before .before
-
 -- ---- the needs
-both-at-requires : tie.Need-both-at-requires
-both-at-requires c κs = (entry c .pre .0, c .if1 .taken)
-
 mark-four-requires : tie.Need-mark-four-requires
-mark-four-requires c κs = search needs
+mark-four-requires c κs =
+    let e = entry (c .before) in omega (arith, e .pre .1 (c .before .if1 .taken) .values .fit, e .pre .2)
 
 mark-plain-requires : tie.Need-mark-plain-requires
 mark-plain-requires c κs = search needs
@@ -31,8 +27,9 @@ same-length c = search needs
 returns : tie.Need-returns
 returns c =
     let m = by-four c in
-    let v = valued m in
-    m .mark-four .ensures ∙ four-marked (v .both-at .ensures) _ (entry (v .before) .pre .1)
+    let branch = m .before .before in
+    let e = entry branch in
+    m .mark-four .ensures ∙ four-marked (e .pre .1 (branch .if1 .taken)) _ (e .pre .2)
 
 same-length-2 : tie.Need-same-length-2
 same-length-2 c = search needs
@@ -43,11 +40,4 @@ returns-2 c = search needs
 pub mark-coefficients-spec : {M : Type 1} → statement M
 mark-coefficients-spec =
     tie.close
-    (tie.spec
-    both-at-requires
-    mark-four-requires
-    mark-plain-requires
-    same-length
-    returns
-    same-length-2
-    returns-2)
+    (tie.spec mark-four-requires mark-plain-requires same-length returns same-length-2 returns-2)

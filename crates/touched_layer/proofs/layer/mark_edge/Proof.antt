@@ -35,7 +35,7 @@ part-mark-coefficients-end c = search needs
 mark-coefficients-requires : tie.Need-mark-coefficients-requires
 mark-coefficients-requires c κs =
     let p = entry c .pre in
-    (p .0, rw (rest-length, length-set, length-set) (omega (arith, p .1)))
+    (p .0, p .1, rw (rest-length, length-set, length-set) (omega (arith, p .2)))
 
 same-length : tie.Need-same-length
 same-length c = c .before .map .given .1 ∙ simp length-set
@@ -44,7 +44,7 @@ returns : tie.Need-returns
 unfolding edgeTouched
 returns c =
     let m = marked c in
-    marked-two _ _ _ (omega (arith, entry (m .before) .pre .1)) (m .mark-coefficients .ensures ∙ rw rest)
+    marked-two _ _ _ (omega (arith, entry (m .before) .pre .2)) (m .mark-coefficients .ensures ∙ rw rest)
 
 pub mark-edge-spec : {M : Type 1} → statement M
 mark-edge-spec =

@@ -1,24 +1,37 @@
--- `touched_layer::mark_layer` meets its contract: after o turns o outputs are marked. Assumes nothing.
-use mathlib.Core.Path.{_≡_}
+-- `touched_layer::layer::mark_layer` meets its contract: after i turns the edges that read i inputs are marked. Assumes nothing.
+use mathlib.Core.Path.{_≡_, refl, ap, _∙_}
+use mathlib.Core.Bool.{Bool}
+use mathlib.Core.List.{List}
 use Prim.Native.Nat.{ℕ, _+_, _*_, _-_, _≤_}
+use native.Mathlib.Nat.{le-refl}
 use native.Mathlib.Omega.{arith}
 use lib.ListN.{length}
-use Rattle.floats.specs.Sums.{flatTo}
-use Rattle.floats.proofs.Loops.{row-room}
+use lib.Ieee.{Float}
+use Rattle.floats.specs.Sums.{at, flatTo}
+use Rattle.floats.proofs.Loops.{room, row-room}
+use Rattle.spline.specs.declared.Grid.{Grid}
 use Rattle.layers.specs.Net.{basisOf}
-use Rattle.touched_layer.specs.Touched.{nodeTouched, layerTouched}
+use Rattle.touched_layer.specs.Touched.{edgeTouched, nodeTouched, layerTouched}
 use Rattle.touched_layer.specs.Marks.{markedBy}
-use Rattle.touched_layer.proofs.Marking.{marked-first, marked-size, PartTurn, part-in, part-room, one-part}
-use Rattle.touched_layer.proofs.Layers.{node-length}
+use Rattle.touched_layer.proofs.Marking.{marked-size}
+use Rattle.touched_layer.proofs.Rows.{doneRow, none-done, one-input, all-done}
+use Rattle.touched_layer.proofs.Layers.{edge-length}
 use Rattle.touched_layer.proofs.layer.mark_layer.Statement.{statement}
 use Rattle.touched_layer.proofs.layer.mark_layer.Tie as tie
 
+-- the tests of the edges of one output, and of its row when i of them are done
+abbrev edges : Grid → List Float → ℕ → List Bool
+edges g xs j = edgeTouched (basisOf g) (at xs j)
+
+abbrev rowDone : Grid → List Float → ℕ → List Bool
+rowDone g xs i = doneRow (edges g xs) (g .intervals + 5) (length xs * (g .intervals + 5)) i
+
 abbrev Inv-loop : tie.InvT-loop
-Inv-loop mesh inputs n map₀ row o₀ map o =
-    (o ≤ n) × (map ≡ markedBy (flatTo (λ (q : ℕ). nodeTouched (basisOf (mesh .grid)) inputs) o) map₀)
+Inv-loop mesh inputs n map₀ stride row i₀ i-end map i =
+    (i ≤ length inputs) × (map ≡ markedBy (flatTo (λ (o : ℕ). rowDone (mesh .grid) inputs i) n) map₀)
 
 abbrev μ-loop : tie.MeasureT-loop
-μ-loop mesh inputs n map₀ row o₀ map o = n - o
+μ-loop mesh inputs n map₀ stride row i₀ i-end map i = length inputs - i
 
 -- ---- from place to place: only these lines know how many places lie between
 abbrev lent : tie.After-struct-known Inv-loop μ-loop → tie.Start Inv-loop μ-loop
@@ -30,64 +43,78 @@ entry c = lent (c .before)
 abbrev head : tie.In-loop Inv-loop μ-loop → tie.At-loop Inv-loop μ-loop
 head c = c .before
 
-abbrev marked : tie.After-slice-known2 Inv-loop μ-loop → tie.After-mark-node Inv-loop μ-loop
-marked c = c .before .before
+abbrev turn : tie.After-mark-input Inv-loop μ-loop → tie.In-loop Inv-loop μ-loop
+turn c = c .before .before .before
 
 -- ---- what is known in a turn
-turn : (c : tie.In-loop Inv-loop μ-loop)
-    → PartTurn (λ (o : ℕ). nodeTouched (basisOf (entry (head c) .args .mesh .grid)) (entry (head c) .args .inputs .now))
-    (length (entry (head c) .args .inputs .now) * (entry (head c) .args .mesh .grid .intervals + 5))
-    (entry (head c) .args .n) (head c .loop .o) (entry (head c) .args .map .now) (head c .loop .map)
-turn c = record {
-  each = λ o. node-length _ _;
-  there = entry (head c) .pre .2;
-  more = c .loop-test .taken;
-  bytes = head c .loop .inv .1;
-}
+size : (c : tie.At-loop Inv-loop μ-loop) → length (c .loop .map) ≡ length (entry c .args .map .now)
+size c = marked-size _ _ _ (c .loop .inv .1)
+
+-- the edge lies in its row
+inside : (c : tie.In-loop Inv-loop μ-loop)
+    → head c .loop .i * (entry (head c) .args .mesh .grid .intervals + 5) + (entry (head c) .args .mesh .grid .intervals + 5)
+    ≤ length (entry (head c) .args .inputs .now) * (entry (head c) .args .mesh .grid .intervals + 5)
+inside c = room (head c .loop .i) (length (entry (head c) .args .inputs .now)) _ _ (c .loop-test .taken) (le-refl _)
+
+-- a row lies in the map
+row-in : (c : tie.Start Inv-loop μ-loop) → length (c .args .inputs .now) * (c .args .mesh .grid .intervals + 5) ≤ length (c .args .map .now)
+row-in c = row-room _ _ _ (c .pre .1) (c .pre .2)
 
 -- ---- the needs
-add-row : tie.Need-add-row Inv-loop μ-loop
-add-row c = omega arith
+add-stride : tie.Need-add-stride Inv-loop μ-loop
+add-stride c = omega arith
 
 mul-row : tie.Need-mul-row Inv-loop μ-loop
-mul-row c = let s = lent c in omega (arith, row-room _ _ _ (s .pre .1) (s .pre .2), s .good)
+mul-row c = let s = lent c in omega (arith, row-in s, s .good)
 
 loop-holds : tie.Need-loop-holds Inv-loop μ-loop
-loop-holds c = (omega arith, marked-first _ _)
+loop-holds c =
+    let s = lent c in
+    (omega arith, none-done (edges (s .args .mesh .grid) (s .args .inputs .now)) _ _ (λ j. edge-length _ _) (s .args .n) _)
 
-mul-at : tie.Need-mul-at Inv-loop μ-loop
-mul-at c = omega (arith, part-in (turn c), marked-size _ _ _ (turn c .bytes), entry (head c) .good)
+mul-mark-input : tie.Need-mul-mark-input Inv-loop μ-loop
+mul-mark-input c = let s = entry (head c) in omega (arith, inside c, row-in s, s .good)
 
-sub-mark-node : tie.Need-sub-mark-node Inv-loop μ-loop
-sub-mark-node c = omega (arith, part-in (turn c))
+shared-slice-read-mark-input : tie.Need-shared-slice-read-mark-input Inv-loop μ-loop
+shared-slice-read-mark-input c = omega arith
 
-part-mark-node-start : tie.Need-part-mark-node-start Inv-loop μ-loop
-part-mark-node-start c = omega (arith, part-in (turn c))
+mul-mark-input-2 : tie.Need-mul-mark-input-2 Inv-loop μ-loop
+mul-mark-input-2 c = let t = c .before in let s = entry (head t) in omega (arith, inside t, row-in s, s .good)
 
-part-mark-node-end : tie.Need-part-mark-node-end Inv-loop μ-loop
-part-mark-node-end c = omega arith
+mark-input-requires : tie.Need-mark-input-requires Inv-loop μ-loop
+mark-input-requires c κs =
+    let t = c .before .before in
+    let s = entry (head t) in
+    (s .pre .0, inside t, omega (arith, size (head t), s .pre .2))
 
-mark-node-requires : tie.Need-mark-node-requires Inv-loop μ-loop
-mark-node-requires c κs = let t = c .before in (entry (head t) .pre .0, part-room (turn t))
-
-add-o : tie.Need-add-o Inv-loop μ-loop
-add-o c = omega arith
+add-i : tie.Need-add-i Inv-loop μ-loop
+add-i c = omega arith
 
 loop-less : tie.Need-loop-less Inv-loop μ-loop
 loop-less c = omega arith
 
 loop-again : tie.Need-loop-again Inv-loop μ-loop
-loop-again c = let m = marked c in (omega arith, one-part (turn (m .before .before)) _ (m .mark-node .ensures))
+loop-again c =
+    let m = c .before .before in
+    let t = turn m in
+    let s = entry (head t) in (
+      omega arith,
+      one-input (edges (s .args .mesh .grid) (s .args .inputs .now)) _ _ (λ j. edge-length _ _) (s .args .n) (head t .loop .i) _ _ _ (inside t)
+          (head t .loop .inv .1) (m .mark-input .ensures),
+    )
 
 same-length : tie.Need-same-length Inv-loop μ-loop
-same-length c = marked-size _ _ _ (c .before .loop .inv .1)
+same-length c = size (c .before)
 
 returns : tie.Need-returns Inv-loop μ-loop
-unfolding layerTouched
+unfolding layerTouched nodeTouched
 returns c =
     let h = c .before in
-    let all : h .loop .o ≡ entry h .args .n = omega arith in
-    rw all at (h .loop .inv .1)
+    let s = entry h in
+    let all : h .loop .i ≡ length (s .args .inputs .now) = omega arith in
+    (rw all at (h .loop .inv .1))
+    ∙ ap (λ (bs : List Bool). markedBy (flatTo (λ (o : ℕ). bs) (s .args .n)) (s .args .map .now))
+    (all-done (edges (s .args .mesh .grid) (s .args .inputs .now)) _ _ (λ j. edge-length _ _) (s .args .n) (length (s .args .inputs .now)) refl)
 
 pub mark-layer-spec : {M : Type 1} → statement M
 mark-layer-spec =
@@ -95,15 +122,14 @@ mark-layer-spec =
     (tie.spec
     Inv-loop
     μ-loop
-    add-row
+    add-stride
     mul-row
     loop-holds
-    mul-at
-    sub-mark-node
-    part-mark-node-start
-    part-mark-node-end
-    mark-node-requires
-    add-o
+    mul-mark-input
+    shared-slice-read-mark-input
+    mul-mark-input-2
+    mark-input-requires
+    add-i
     loop-less
     loop-again
     same-length

@@ -41,7 +41,7 @@ module _ (ws : List ℕ) (g : Grid) (D : Places) (ps qs : List Float) (differ : 
   abbrev N : Net
   N = netOf g
 
-  two : Siblings N ws D ps qs
+  pub two : Siblings N ws D ps qs
   two = record { begins = plain-zero; edge = omega arith; differ = differ }
 
   module _ (xs a b : List Float) where
@@ -49,7 +49,7 @@ module _ (ws : List ℕ) (g : Grid) (D : Places) (ps qs : List Float) (differ : 
     to9 = upTo9 ws g (length ps) (length a) (length b)
 
     -- a work slice
-    swept-same : (s : List Float) → swept to9 (widestIn ws) s ≡ swept (upTo9 ws g (length qs) (length a) (length b)) (widestIn ws) s
+    pub swept-same : (s : List Float) → swept to9 (widestIn ws) s ≡ swept (upTo9 ws g (length qs) (length a) (length b)) (widestIn ws) s
     swept-same s = rw (← differ .size)
 
     -- ---- a single `forward`

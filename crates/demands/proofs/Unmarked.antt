@@ -11,30 +11,24 @@ use lib.ListN.{length}
 use lib.Seq.{take-all}
 use lib.Ieee.{Float}
 use borrow.Author.Tests.{eqb-true}
-use Rattle.floats.proofs.Sums.{plain-zero}
 use Rattle.refusals.specs.declared.Outcome.the-variants.{Done}
-use Rattle.refusals.specs.Refusals.{_then_, past, outcomeOf}
+use Rattle.refusals.specs.Refusals.{_then_}
 use Rattle.refusals.proofs.Firsts.{both-pass, first-clear, not-refused}
 use Rattle.spline.specs.declared.Grid.{Grid}
 use Rattle.layers.specs.Net.{Net, netOf}
-use Rattle.layers.specs.Widths.{inputWidth, parametersIn, widestIn}
-use Rattle.config.specs.Config.{rowCarried}
-use Rattle.admission.specs.Admission.{upTo9, swept}
+use Rattle.layers.specs.Widths.{inputWidth, parametersIn}
 use Rattle.batches.specs.Batch.{rowsIn, rowAt, rowFault}
 use Rattle.passes.specs.Pass.{rowsOf, rowRefusal, rowsRefusal}
 use Rattle.passes.proofs.Rows.{full}
 use Rattle.passes.proofs.Past9.{fitted}
 use Rattle.passes.proofs.EachRow.{wide-rows}
 use Rattle.training.specs.Train.{modelAfter}
-use Rattle.visit_map.specs.Visits.{marksOf, mapUpTo11, visitRefusal, visitCarried, visitMarks, Visited}
+use Rattle.visit_map.specs.Visits.{marksOf, mapUpTo11, visitRefusal, visitMarks, Visited}
 use Rattle.visit_map.proofs.Calls.{past11}
 use Rattle.demands.specs.Silent.{Places, Differ, RowSilent}
-use Rattle.demands.specs.Readings.{PredictReads, TrainReads}
-use Rattle.demands.specs.Alike.{SameVisit}
+use Rattle.demands.specs.Readings.{TrainReads}
 use Rattle.demands.specs.Unmarked.{unmarked, SilentIn, AnsweredAlike, Unmarked}
-use Rattle.demands.proofs.Places.{Siblings}
-use Rattle.demands.proofs.Predicting.{rows-refusal-same, rows-done-same}
-use Rattle.demands.proofs.Visiting.{all-marks-same}
+use Rattle.demands.proofs.Visiting.{visit-same}
 use Rattle.demands.proofs.Marked.{row-silent}
 use Rattle.demands.proofs.Demand.{demand-3}
 
@@ -52,47 +46,6 @@ some-row n w h = go (eqb (n % w) 0) refl (n / w) refl
 
 first-row : (w : ℕ) (xs : List Float) → length xs ≡ w → rowAt xs w 0 ≡ xs
 first-row w xs e = rw (zero-mul w) (take-all w xs (le-of-eq e))
-
--- ---- the maps of two models that differ in silent coefficients
-module _ (ws : List ℕ) (g : Grid) (D : Places) (ps qs : List Float) (differ : Differ (g .intervals + 5) D ps qs) (xs : List Float)
-    (reads : PredictReads (netOf g) ws D ps xs) where
-  abbrev net : Net
-  net = netOf g
-
-  two : Siblings net ws D ps qs
-  two = record { begins = plain-zero; edge = omega arith; differ = differ }
-
-  module _ (a b : List Float) (ms : List ℕ) where
-    abbrev checksOf : List Float → ℕ
-    checksOf model = mapUpTo11 ws g model (length a) (length b) (length ms)
-
-    checks-same : checksOf ps ≡ checksOf qs
-    unfolding mapUpTo11
-    checks-same = rw (differ .finite .0, differ .finite .1, ← differ .size)
-
-    refusal-same : visitRefusal net ws g ps xs a b ms ≡ visitRefusal net ws g qs xs a b ms
-    unfolding visitRefusal
-    refusal-same i = checks-same i then rows-refusal-same two xs reads i
-
-    carried-same : visitCarried net ws g ps xs a b ms ≡ visitCarried net ws g qs xs a b ms
-    unfolding visitCarried
-    carried-same i = rowCarried (checks-same i) (parametersIn (g .intervals + 5) ws) (rows-done-same two xs reads i)
-
-    marks-same : visitMarks net ws g ps xs a b ms ≡ visitMarks net ws g qs xs a b ms
-    unfolding visitMarks
-    marks-same i = past (checks-same i) (all-marks-same two xs reads (parametersIn (g .intervals + 5) ws) i) ms
-
-    visit-same : SameVisit net net ws g ps qs xs a b ms
-    visit-same r s a′ b′ ms′ a″ b″ ms″ p q = (
-      p .answer ∙ (λ i. outcomeOf (refusal-same i) (carried-same i)) ∙ sym (q .answer),
-      p .map ∙ marks-same ∙ sym (q .map),
-      p .first ∙ swept-same a ∙ sym (q .first),
-      p .second ∙ swept-same b ∙ sym (q .second),
-    )
-      where
-        swept-same : (s : List Float) → swept (upTo9 ws g (length ps) (length a) (length b)) (widestIn ws) s
-            ≡ swept (upTo9 ws g (length qs) (length a) (length b)) (widestIn ws) s
-        swept-same s = rw (← differ .size)
 
 -- ---- an accepted call: no check refuses it and no row, and it leaves the marks of all rows
 module _ (ws : List ℕ) (g : Grid) (ps xs a b : List Float) (ms : List ℕ) (a′ b′ : List Float) (ms′ : List ℕ)

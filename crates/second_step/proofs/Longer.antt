@@ -42,7 +42,8 @@ use Rattle.demands.proofs.Marked.{unmarked-byte}
 use Rattle.demands.proofs.Unmarked.{map-shows}
 use Rattle.demands.proofs.Demand.{demand-3}
 use Rattle.examples.specs.Starred.{bits}
-use Rattle.second_step.specs.Longer.{deep, deepNet, ending, rate, Trains, marked, afterOne, firstAfterTwo, secondAfterTwo, SilentFor, AlikeAfter, Longer}
+use Rattle.second_step.specs.Longer.{deep, deepNet, ending, rate, Trains, marked, afterOne, firstAfterTwo, secondAfterTwo}
+use Rattle.second_step.specs.Longer.{SilentFor, AlikeAfter, Longer}
 
 -- ---- one step on any model, in stages
 abbrev B : Basis

@@ -1,6 +1,6 @@
 -- `local_basis::fours::both_at` meets its contract. Assumes nothing.
 use mathlib.Core.Path.{sym, _∙_}
-use borrow.Author.Needs.{needs}
+use native.Mathlib.Omega.{arith}
 use Rattle.local_basis.proofs.Moved.{placed-together}
 use Rattle.local_basis.proofs.Squares.{cubes-start, rises-start}
 use Rattle.local_basis.proofs.Standing.{may-place, values-none, values-some, slopes-none, slopes-some}
@@ -16,13 +16,13 @@ squared c = c .before .before .before
 
 -- ---- the needs
 interval-requires : tie.Need-interval-requires
-interval-requires c κs = search needs
+interval-requires c κs = c .pre
 
 add-if1 : tie.Need-add-if1
-add-if1 c = search needs
+add-if1 c = omega (arith, c .before .before .pre .0 .intervals)
 
 no-eight-requires : tie.Need-no-eight-requires
-no-eight-requires c κs = search needs
+no-eight-requires c κs = tt
 
 returns : tie.Need-returns
 returns c =
@@ -36,10 +36,11 @@ returns c =
     }
 
 squares-of-requires : tie.Need-squares-of-requires
-squares-of-requires c κs = search needs
+squares-of-requires c κs =
+    let asked = c .before .before .before .pre .0 in (omega (arith, c .if1 .left, asked .intervals), asked)
 
 cubes-requires : tie.Need-cubes-requires
-cubes-requires c κs = search needs
+cubes-requires c κs = tt
 
 placed-requires : tie.Need-placed-requires
 placed-requires c κs =
@@ -48,7 +49,7 @@ placed-requires c κs =
     may-place (at .before .pre) (at .interval .ensures) (row .before .if1 .left) (cubes-start _ _ _ _ (c .cubes .ensures))
 
 rises-requires : tie.Need-rises-requires
-rises-requires c κs = search needs
+rises-requires c κs = tt
 
 placed-requires-2 : tie.Need-placed-requires-2
 placed-requires-2 c κs =

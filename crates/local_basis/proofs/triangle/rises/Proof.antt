@@ -1,24 +1,26 @@
 -- `local_basis::triangle::rises` meets its contract. Assumes nothing.
 use Rattle.local_basis.specs.Fours.{risesOf}
-use borrow.Author.Needs.{needs}
 use Rattle.local_basis.proofs.triangle.rises.Statement.{statement}
 use Rattle.local_basis.proofs.triangle.rises.Tie as tie
 
 portion-requires : tie.Need-portion-requires
-portion-requires c κs = search needs
+portion-requires c κs = tt
 
 portion-requires-2 : tie.Need-portion-requires-2
-portion-requires-2 c κs = search needs
+portion-requires-2 c κs = tt
 
 portion-requires-3 : tie.Need-portion-requires-3
-portion-requires-3 c κs = search needs
+portion-requires-3 c κs = tt
 
 less-requires : tie.Need-less-requires
-less-requires c κs = search needs
+less-requires c κs = tt
 
 returns : tie.Need-returns
 unfolding risesOf
-returns c = cc
+returns c =
+    let second = c .before .before .before in
+    let first = second .before .before in
+    rw (c .less .ensures, c .before .portion3 .ensures, second .portion2 .ensures, first .portion .ensures)
 
 pub rises-spec : {M : Type 1} → statement M
 rises-spec =

@@ -1,4 +1,5 @@
 -- `local_basis::triangle::cubes` meets its contract. Assumes nothing.
+use Rattle.floats.specs.Binary32.{_⊕_}
 use Rattle.local_basis.specs.Fours.{cubesOf}
 use Rattle.local_basis.proofs.triangle.cubes.Statement.{statement}
 use Rattle.local_basis.proofs.triangle.cubes.Tie as tie
@@ -32,15 +33,13 @@ returns c =
     let third = fourth .before .before .before in
     let second = third .before .before .before in
     let first = second .before .before .before in
-    rw (
-      c .less .ensures,
-      c .before .portion6 .ensures,
-      fifth .portion5 .ensures,
-      fourth .portion4 .ensures,
-      third .portion3 .ensures,
-      second .portion2 .ensures,
-      first .portion .ensures,
-    )
+    λ i. record {
+      start = c .less .ensures i;
+      first = first .portion .ensures i;
+      second = second .portion2 .ensures i ⊕ third .portion3 .ensures i;
+      third = fourth .portion4 .ensures i ⊕ fifth .portion5 .ensures i;
+      fourth = c .before .portion6 .ensures i;
+    }
 
 pub cubes-spec : {M : Type 1} → statement M
 cubes-spec =

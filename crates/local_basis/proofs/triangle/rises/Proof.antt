@@ -1,4 +1,5 @@
 -- `local_basis::triangle::rises` meets its contract. Assumes nothing.
+use Rattle.floats.specs.Binary32.{_⊖_, zero32}
 use Rattle.local_basis.specs.Fours.{risesOf}
 use Rattle.local_basis.proofs.triangle.rises.Statement.{statement}
 use Rattle.local_basis.proofs.triangle.rises.Tie as tie
@@ -20,7 +21,16 @@ unfolding risesOf
 returns c =
     let second = c .before .before .before in
     let first = second .before .before in
-    rw (c .less .ensures, c .before .portion3 .ensures, second .portion2 .ensures, first .portion .ensures)
+    let low = first .portion .ensures in
+    let middle = second .portion2 .ensures in
+    let high = c .before .portion3 .ensures in
+    λ i. record {
+      start = c .less .ensures i;
+      first = zero32 ⊖ low i;
+      second = low i ⊖ middle i;
+      third = middle i ⊖ high i;
+      fourth = high i ⊖ zero32;
+    }
 
 pub rises-spec : {M : Type 1} → statement M
 rises-spec =

@@ -6,7 +6,7 @@ use mathlib.Core.Path.{_≡_, refl, sym, ap, _∙_, subst}
 use mathlib.Core.Bool.{Bool, true, false, not}
 use mathlib.Core.List.{List, _++_, [], append-nil}
 use lib.Dec.{T, ltb, ltb→lt, nltb→le}
-use lib.ListN.{length, drop, length-append, List·getD-append, List·getD-eq-default}
+use lib.ListN.{length, drop, getD, length-append, List·getD-append, List·getD-eq-default}
 use lib.Seq.{getD-append-add}
 use lib.Ieee.{Float, nan}
 use Rattle.floats.specs.Sums.{at, tabulate, flatTo}
@@ -31,8 +31,11 @@ by-length {X} p n f h = go (ltb p n) (ltb→lt p n) (nltb→le p n)
     go false a b = h (b tt)
 
 -- ---- a table, by its places
+pub table-get : {A : Type 0} (f : ℕ → A) (n p : ℕ) (x : A) → p < n → getD (tabulate f n) p x ≡ f p
+table-get {A} f n p x h = ap (λ (ys : List A). getD ys p x) (sym (append-nil (tabulate f n))) ∙ tab-get f n p h [] x
+
 pub table-at : (f : ℕ → Float) (n p : ℕ) → p < n → at (tabulate f n) p ≡ f p
-table-at f n p h = ap (λ (ys : List Float). at ys p) (sym (append-nil (tabulate f n))) ∙ tab-get f n p h [] nan
+table-at f n p h = table-get f n p nan h
 
 pub table-past : (f : ℕ → Float) (n p : ℕ) → n ≤ p → at (tabulate f n) p ≡ nan
 table-past f n p h = List·getD-eq-default (tabulate f n) nan (subst (λ (m : ℕ). m ≤ p) (sym (tab-length f n)) h)

@@ -3,17 +3,17 @@ use Prim.Native.Nat.{ℕ, zero, suc, _+_, _-_, _*_, _%_, _≤_, _<_}
 use native.Mathlib.Nat.{le-refl, eq-or-lt-of-le, le-of-suc-le-suc}
 use native.Mathlib.Numerals.{add-one}
 use native.Mathlib.Omega.{arith}
-use mathlib.Core.Path.{_≡_, refl, sym, ap, _∙_, subst}
+use mathlib.Core.Path.{_≡_, refl, sym, _∙_, subst}
 use mathlib.Core.Logic.{⊎-elim}
 use mathlib.Core.Bool.{Bool, true, false, _&&_, _||_, true≢false}
-use mathlib.Core.List.{List, [], _∷_, append-nil}
+use mathlib.Core.List.{List, [], _∷_}
 use lib.Dec.{eqb, leb}
 use lib.ListN.{length, getD, List·getD-eq-default}
 use lib.Seq.{getD-append-add}
 use lib.Ieee.{Float}
 use borrow.Author.Tests.{eqb-true, leb-true}
 use Rattle.floats.specs.Sums.{at, tabulate}
-use Rattle.floats.proofs.Loops.{tab-length, tab-get, flat-get, flat-place, room}
+use Rattle.floats.proofs.Loops.{tab-length, flat-get, flat-place, room}
 use Rattle.spline.specs.declared.Grid.{Grid}
 use Rattle.layers.specs.Net.{netOf, basisOf}
 use Rattle.layers.specs.Widths.{widthAt, inputWidth}
@@ -28,7 +28,7 @@ use Rattle.touched_row.proofs.Rows.{rowLayer, row-length}
 use Rattle.visit_map.specs.Visits.{anyTo, touchedIn, byteOf, byteAt, marksOf}
 use Rattle.demands.specs.Silent.{placeOf, RowSilent}
 use Rattle.demands.specs.Unmarked.{unmarked}
-use Rattle.demands.proofs.Cells.{by-length}
+use Rattle.demands.proofs.Cells.{by-length, table-get}
 
 -- ---- the test of a coefficient, at its place among all that a row touches
 module _ (g : Grid) (ps : List Float) (ws : List ℕ) (xs : List Float) (wide : length xs ≡ widthAt ws 0) where
@@ -49,9 +49,8 @@ module _ (g : Grid) (ps : List Float) (ws : List ℕ) (xs : List Float) (wide : 
     in-edge : getD (edgeTouched (basisOf g) (at read i)) (2 + k) false ≡ touches (basisOf g) k (at read i)
     unfolding edgeTouched
     in-edge =
-        let tests = tabulate (λ (j : ℕ). touches (basisOf g) j (at read i)) (g .intervals + 3) in
-        getD-append-add (true ∷ true ∷ []) tests k false ∙ ap (λ (bs : List Bool). getD bs k false) (sym (append-nil tests))
-        ∙ tab-get _ (g .intervals + 3) k kl _ false
+        let test : ℕ → Bool = λ j. touches (basisOf g) j (at read i) in
+        getD-append-add (true ∷ true ∷ []) (tabulate test (g .intervals + 3)) k false ∙ table-get test (g .intervals + 3) k false kl
 
     in-node : getD (nodeTouched (basisOf g) read) (i * per + (2 + k)) false ≡ touches (basisOf g) k (at read i)
     unfolding nodeTouched
@@ -118,8 +117,7 @@ unfolding marksOf
 untouched g ps ws xs rows n p e =
     let bytes = byteAt (netOf g) ps ws xs rows in
     by-length p n
-    (λ h. any-none _ rows (no-byte _ (sym (ap (λ (ms : List ℕ). getD ms p 1) (sym (append-nil (tabulate bytes n)))
-    ∙ tab-get bytes n p h _ 1) ∙ e)))
+    (λ h. any-none _ rows (no-byte _ (sym (table-get bytes n p 1 h) ∙ e)))
     (λ h. absurd (one-zero (sym (List·getD-eq-default (tabulate bytes n) 1 (subst (λ (m : ℕ). m ≤ p) (sym (tab-length bytes n)) h)) ∙ e)))
   where
     one-zero : _≡_ {A = ℕ} 1 0 → ⊥

@@ -386,8 +386,9 @@ class Model {
         return training;
     }
 
-    // One byte for each parameter: 1 where the batch can feel it, a coefficient by its basis value or its slope, else 0.
-    // What is 0 may be edited to any finite number: predictions, the loss and one step on these inputs stay the same.
+    // One byte for each parameter: 1 where the batch can feel it, a coefficient by its basis value or slope, else 0.
+    // A coefficient that is 0 may be set to any finite number: predictions, the loss and, but for itself, one step
+    // on these inputs stay the same.
     Result<std::vector<std::uint8_t>> visits(Floats inputs, Work &work) const {
         const ExactFloats exact;
         std::vector<std::uint8_t> map(numbers.size());

@@ -15,7 +15,7 @@ use Rattle.layers.specs.Widths.{parametersIn, widestIn, nodesIn}
 use Rattle.config.specs.Config.{configFault}
 use Rattle.config.specs.Sized.{Sized}
 use Rattle.config.proofs.Sized.{sized}
-use Rattle.admission.specs.Admission.{upTo8, upTo9, upTo9InTraining, swept}
+use Rattle.admission.specs.Admission.{upTo8, upTo9, upTo9ForNodes, upTo9InTraining, swept}
 
 -- a model of n parameters
 pub record Past8 (ws : List ℕ) (g : Grid) (n : ℕ) : Type 0 where
@@ -51,25 +51,36 @@ past9 ws g n a b e =
       second = leb-true (widestIn ws) b (test-passes _ 8 (both .1));
     }
 
--- a gradients and b numbers of work
-pub record Past9InTraining (ws : List ℕ) (g : Grid) (n a b : ℕ) : Type 0 where
+-- b numbers of work for the nodes
+pub record Past9ForNodes (ws : List ℕ) (g : Grid) (n b : ℕ) : Type 0 where
   pub size : Sized ws g
   pub model : n ≡ parametersIn (g .intervals + 5) ws
-  pub gradients : parametersIn (g .intervals + 5) ws ≤ a
   pub work : 2 * nodesIn ws ≤ b
+
+pub past9-for-nodes : (ws : List ℕ) (g : Grid) (n b : ℕ) → upTo9ForNodes ws g n b ≡ 0 → Past9ForNodes ws g n b
+unfolding upTo9ForNodes
+past9-for-nodes ws g n b e =
+    let both = both-pass (upTo8 ws g n) _ e in
+    let p = past8 ws g n (both .0) in
+    record {
+      size = p .size;
+      model = p .model;
+      work = leb-true (2 * nodesIn ws) b (test-passes _ 8 (both .1));
+    }
+
+-- and a gradients
+pub record Past9InTraining (ws : List ℕ) (g : Grid) (n a b : ℕ) : Type 0 where
+  pub nodes : Past9ForNodes ws g n b
+  pub gradients : parametersIn (g .intervals + 5) ws ≤ a
 
 pub past9-in-training : (ws : List ℕ) (g : Grid) (n a b : ℕ) → upTo9InTraining ws g n a b ≡ 0
     → Past9InTraining ws g n a b
 unfolding upTo9InTraining
 past9-in-training ws g n a b e =
-    let after8 = both-pass (upTo8 ws g n) _ e in
-    let both = both-pass (leb (parametersIn (g .intervals + 5) ws) a otherwise 9) _ (after8 .1) in
-    let p = past8 ws g n (after8 .0) in
+    let both = both-pass (upTo9ForNodes ws g n b) _ e in
     record {
-      size = p .size;
-      model = p .model;
-      gradients = leb-true (parametersIn (g .intervals + 5) ws) a (test-passes _ 8 (both .0));
-      work = leb-true (2 * nodesIn ws) b (test-passes _ 8 (both .1));
+      nodes = past9-for-nodes ws g n b (both .0);
+      gradients = leb-true (parametersIn (g .intervals + 5) ws) a (test-passes _ 8 (both .1));
     }
 
 -- a slice that was swept past checks that refuse nothing

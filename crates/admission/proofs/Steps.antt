@@ -13,7 +13,7 @@ use Rattle.config.specs.declared.Checked.the-variants.{Sound, Refused}
 use Rattle.config.specs.declared.Sizes.{Sizes}
 use Rattle.config.specs.Config.{configFault, sizesOf, checkedOf, checkOf}
 use Rattle.config.proofs.Answers.{stays-refused, goes-on}
-use Rattle.admission.specs.Admission.{upTo8, upTo9, upTo9InTraining}
+use Rattle.admission.specs.Admission.{upTo8, upTo9, upTo9ForNodes, upTo9InTraining}
 
 abbrev pub refusedBy : ℕ → Checked
 refusedBy n = Refused (record { number = n; carried = 0 })
@@ -21,12 +21,6 @@ refusedBy n = Refused (record { number = n; carried = 0 })
 -- how many numbers each slice must have
 abbrev widestOf : Sizes → ℕ
 widestOf s = s .widest
-
-abbrev parametersOf : Sizes → ℕ
-parametersOf s = s .parameters
-
-abbrev twiceNodes : Sizes → ℕ
-twiceNodes s = 2 * s .nodes
 
 abbrev pub checked8 : List ℕ → Grid → ℕ → Checked
 checked8 ws g n = checkedOf (upTo8 ws g n) (sizesOf ws g)
@@ -81,27 +75,51 @@ module _ (ws : List ℕ) (g : Grid) (n a b : ℕ) where
   unfolding upTo9
   fails-second9 t = fails-second (upTo8 ws g n) (sizesOf ws g) t widestOf widestOf a b
 
--- for training: twice the nodes could pass what a word holds, so that their number is compared with half of the work
+-- ---- 9, for one slice of a numbers
+module _ (n : ℕ) (s t : Sizes) (needed : Sizes → ℕ) (a : ℕ) (e : checkedOf n s ≡ Sound t) where
+  one-fits : needed t ≤ a → Sound t ≡ checkedOf (n then leb (needed s) a otherwise 9) s
+  one-fits h = sym (rw (goes-on n s t (λ z. leb (needed z) a otherwise 9) e, le-leb _ _ h))
+
+  one-fails : a < needed t → refusedBy 9 ≡ checkedOf (n then leb (needed s) a otherwise 9) s
+  one-fails h = sym (rw (goes-on n s t (λ z. leb (needed z) a otherwise 9) e, lt-leb _ _ h))
+
+-- the nodes: twice their number could pass what a word holds, so that it is compared with half of the work
+module _ (ws : List ℕ) (g : Grid) (n b : ℕ) where
+  abbrev pub checkedForNodes : Checked
+  checkedForNodes = checkedOf (upTo9ForNodes ws g n b) (sizesOf ws g)
+
+  abbrev twiceNodes : Sizes → ℕ
+  twiceNodes z = 2 * z .nodes
+
+  pub stays-nodes9 : (r : Refusal) → checked8 ws g n ≡ Refused r → Refused r ≡ checkedForNodes
+  unfolding upTo9ForNodes
+  stays-nodes9 r e = stays-refused (upTo8 ws g n) _ (sizesOf ws g) r e
+
+  pub fits-nodes9 : (t : Sizes) → checked8 ws g n ≡ Sound t → t .nodes ≤ b / 2 → Sound t ≡ checkedForNodes
+  unfolding upTo9ForNodes
+  fits-nodes9 t e k = one-fits (upTo8 ws g n) (sizesOf ws g) t twiceNodes b e (omega (arith, k))
+
+  pub fails-nodes9 : (t : Sizes) → checked8 ws g n ≡ Sound t → b / 2 < t .nodes → refusedBy 9 ≡ checkedForNodes
+  unfolding upTo9ForNodes
+  fails-nodes9 t e k = one-fails (upTo8 ws g n) (sizesOf ws g) t twiceNodes b e (omega (arith, k))
+
+-- and the gradients
 module _ (ws : List ℕ) (g : Grid) (n a b : ℕ) where
   abbrev checkedInTraining : Checked
   checkedInTraining = checkedOf (upTo9InTraining ws g n a b) (sizesOf ws g)
 
-  pub stays-training9 : (r : Refusal) → checked8 ws g n ≡ Refused r → Refused r ≡ checkedInTraining
-  unfolding upTo9InTraining
-  stays-training9 r e = stays-refused (upTo8 ws g n) _ (sizesOf ws g) r e
+  abbrev parametersOf : Sizes → ℕ
+  parametersOf z = z .parameters
 
-  pub fits-training9 : (t : Sizes) → checked8 ws g n ≡ Sound t → t .parameters ≤ a → t .nodes ≤ b / 2
-      → Sound t ≡ checkedInTraining
+  pub stays-training9 : (r : Refusal) → checkedForNodes ws g n b ≡ Refused r → Refused r ≡ checkedInTraining
   unfolding upTo9InTraining
-  fits-training9 t e h k =
-      fits (upTo8 ws g n) (sizesOf ws g) t parametersOf twiceNodes a b e h (omega (arith, k))
+  stays-training9 r e = stays-refused (upTo9ForNodes ws g n b) _ (sizesOf ws g) r e
 
-  pub fails-gradients9 : (t : Sizes) → checked8 ws g n ≡ Sound t → a < t .parameters → refusedBy 9 ≡ checkedInTraining
+  pub fits-training9 : (t : Sizes) → checkedForNodes ws g n b ≡ Sound t → t .parameters ≤ a → Sound t ≡ checkedInTraining
   unfolding upTo9InTraining
-  fails-gradients9 t = fails-first (upTo8 ws g n) (sizesOf ws g) t parametersOf twiceNodes a b
+  fits-training9 t = one-fits (upTo9ForNodes ws g n b) (sizesOf ws g) t parametersOf a
 
-  pub fails-nodes9 : (t : Sizes) → checked8 ws g n ≡ Sound t → t .parameters ≤ a → b / 2 < t .nodes
+  pub fails-training9 : (t : Sizes) → checkedForNodes ws g n b ≡ Sound t → a < t .parameters
       → refusedBy 9 ≡ checkedInTraining
   unfolding upTo9InTraining
-  fails-nodes9 t e h k =
-      fails-second (upTo8 ws g n) (sizesOf ws g) t parametersOf twiceNodes a b e h (omega (arith, k))
+  fails-training9 t = one-fails (upTo9ForNodes ws g n b) (sizesOf ws g) t parametersOf a

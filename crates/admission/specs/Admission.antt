@@ -20,12 +20,14 @@ unfoldable pub upTo9 : List ℕ → Grid → ℕ → ℕ → ℕ → ℕ
 upTo9 ws g model first second =
     upTo8 ws g model then leb (widestIn ws) first otherwise 9 then leb (widestIn ws) second otherwise 9
 
--- R2.7, R3.5: the same in training: P numbers for the gradients, 2N of work for the nodes
+-- R2.7, R3.5: 9 of `accumulate`: 2N numbers of work, for the nodes
+unfoldable pub upTo9ForNodes : List ℕ → Grid → ℕ → ℕ → ℕ
+upTo9ForNodes ws g model work = upTo8 ws g model then leb (2 * nodesIn ws) work otherwise 9
+
+-- R2.7, R3.5: the same in training, and P numbers for the gradients
 unfoldable pub upTo9InTraining : List ℕ → Grid → ℕ → ℕ → ℕ → ℕ
 upTo9InTraining ws g model gradients work =
-    upTo8 ws g model
-    then leb (parametersFor ws g) gradients otherwise 9
-    then leb (2 * nodesIn ws) work otherwise 9
+    upTo9ForNodes ws g model work then leb (parametersFor ws g) gradients otherwise 9
 
 -- R3.6: past check 9 the needed part of a slice is all +0.0, after success too; refused by a check up to 9, unchanged
 abbrev pub swept : ℕ → ℕ → List Float → List Float

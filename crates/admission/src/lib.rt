@@ -1,7 +1,7 @@
 // Inner crate: the checks that every call on a model makes first. Each takes all arguments.
 ghost use mathlib.Core.Path.{_≡_};
 ghost use Rattle.config.specs.Config.{sizesOf, checkedOf};
-ghost use Rattle.admission.specs.Admission.{upTo8, upTo9, upTo9InTraining};
+ghost use Rattle.admission.specs.Admission.{upTo8, upTo9, upTo9ForNodes, upTo9InTraining};
 use config::Checked;
 use refusals::Refusal;
 use spline::Grid;
@@ -54,7 +54,28 @@ pub fn check_work(
     }
 }
 
-// 9 for training: P gradients and 2N numbers of work.
+// 9 for `accumulate`: 2N numbers of work. Twice the nodes could pass what a word holds, so half of the work is compared.
+pub fn check_node_work(widths: &[usize], grid: Grid, model: usize, work: usize) -> Checked
+    ensures { λ r. ⌜ r
+        ≡ checkedOf (upTo9ForNodes (now (widths .entry)) grid model work) (sizesOf (now (widths .entry)) grid) ⌝ }
+{
+    let checked = check_model(widths, grid, model);
+    match checked {
+        Checked::Refused(refusal) => Checked::Refused(refusal),
+        Checked::Sound(sizes) => {
+            if sizes.nodes <= work / 2 {
+                Checked::Sound(sizes)
+            } else {
+                Checked::Refused(Refusal {
+                    number: 9,
+                    carried: 0,
+                })
+            }
+        }
+    }
+}
+
+// 9 for training: P gradients as well.
 pub fn check_training_work(
     widths: &[usize],
     grid: Grid,
@@ -65,19 +86,18 @@ pub fn check_training_work(
     ensures { λ r. ⌜ r
         ≡ checkedOf (upTo9InTraining (now (widths .entry)) grid model gradients work) (sizesOf (now (widths .entry)) grid) ⌝ }
 {
-    let checked = check_model(widths, grid, model);
+    let checked = check_node_work(widths, grid, model, work);
     match checked {
         Checked::Refused(refusal) => Checked::Refused(refusal),
         Checked::Sound(sizes) => {
             if sizes.parameters <= gradients {
-                if sizes.nodes <= work / 2 {
-                    return Checked::Sound(sizes);
-                }
+                Checked::Sound(sizes)
+            } else {
+                Checked::Refused(Refusal {
+                    number: 9,
+                    carried: 0,
+                })
             }
-            Checked::Refused(Refusal {
-                number: 9,
-                carried: 0,
-            })
         }
     }
 }

@@ -1,14 +1,14 @@
 -- The gradients of a batch's first rows, and of one row more. Assumes nothing.
 use mathlib.Core.Path.{_≡_, sym, ap, _∙_}
-use mathlib.Core.List.{List, [], append-nil}
+use mathlib.Core.List.{List, append-nil}
 use Prim.Native.Nat.{ℕ, _+_, _<_}
 use native.Mathlib.Numerals.{add-one}
-use lib.ListN.{length, drop}
+use lib.ListN.{length}
 use lib.Seq.{drop-length}
 use lib.Ieee.{Float, nan}
 use Rattle.floats.specs.Binary32.{_⊕_}
 use Rattle.floats.specs.Sums.{sumFrom, tabulate, at}
-use Rattle.floats.proofs.Loops.{tab-length, tab-ext, tab-get, tab-self}
+use Rattle.floats.proofs.Loops.{tab-length, tab-ext, table-get, tab-self}
 use Rattle.layers.specs.Net.{Net}
 use Rattle.layers.specs.Widths.{inputWidth}
 use Rattle.batches.specs.Batch.{rowAt}
@@ -37,8 +37,7 @@ module _ (N : Net) (ps : List Float) (ws : List ℕ) (xs ts : List Float) (v : �
       let f′ = cellAfter (r + 1) in
       let long : length e ≡ length gs = ap length p ∙ tab-length f (length gs) in
       let there : (k : ℕ) → k < length gs → at (tabulate f (length gs)) k ≡ f k =
-      λ k h. ap (λ (z : List Float). at z k) (sym (append-nil (tabulate f (length gs))))
-      ∙ tab-get f (length gs) k h [] nan in
+      λ k h. table-get f (length gs) k nan h in
       let cell : (k : ℕ) → k < length gs → plusAt e (rowAdds r) k ≡ f′ k =
       λ k h. rw (add-one r, p) (ap (λ (x : Float). x ⊕ cellOf N ps ws xs ts v scale k r) (there k h)) in
       q ∙ rw (l, ← long, drop-length e, append-nil) (rw long (tab-ext (plusAt e (rowAdds r)) f′ (length gs) cell))

@@ -1,7 +1,7 @@
--- What the two calls of this crate ask and promise. Definitions only.
+-- What the calls of this crate ask and promise. Definitions only.
 use Prim.Native.Nat.{ℕ, _<_}
 use mathlib.Core.Path.{_≡_}
-use mathlib.Core.Bool.{Bool, true}
+use mathlib.Core.Bool.{Bool, true, false}
 use mathlib.Core.List.{List}
 use lib.ListN.{length, drop}
 use lib.Ieee.{Float}
@@ -23,14 +23,12 @@ pub record FullRows (ws : List ℕ) (xs ts : List Float) : Type 0 where
   pub inputs : Full (inputWidth ws) xs (rowsOf ws xs)
   pub targets : Full (outputWidth ws) ts (rowsOf ws xs)
 
--- whether every row passes 20, and the work past 2N as it was
-pub record RowsTested (N : Net) (ps : List Float) (ws : List ℕ) (xs W W′ : List Float) (r : Bool) : Type 0 where
-  pub passed : r ≡ allTo (finiteRow N ps ws xs) (rowsOf ws xs)
-  pub rest : drop (twoN ws) W′ ≡ drop (twoN ws) W
-
--- whether every row passes 20, then the gradients with all rows added, and the work past 2N as it was
-pub record Accumulated (N : Net) (ps : List Float) (ws : List ℕ) (xs ts : List Float) (scale : Float)
+-- whether every row passes 20, then the gradients with all rows added where `add` says so; they are as they were where it
+-- does not, and where the first row fails; and the work past 2N as it was
+pub record RowsTaken (N : Net) (ps : List Float) (ws : List ℕ) (xs ts : List Float) (scale : Float) (add : Bool)
     (gs W gs′ W′ : List Float) (r : Bool) : Type 0 where
   pub passed : r ≡ allTo (finiteRow N ps ws xs) (rowsOf ws xs)
-  pub gradients : r ≡ true → gs′ ≡ gathered N ps ws xs ts (outputWidth ws) scale gs (rowsOf ws xs)
+  pub added : r ≡ true → add ≡ true → gs′ ≡ gathered N ps ws xs ts (outputWidth ws) scale gs (rowsOf ws xs)
+  pub untold : add ≡ false → gs′ ≡ gs
+  pub kept : finiteRow N ps ws xs 0 ≡ false → gs′ ≡ gs
   pub rest : drop (twoN ws) W′ ≡ drop (twoN ws) W

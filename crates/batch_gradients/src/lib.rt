@@ -1,6 +1,7 @@
-// Inner crate: a batch's gradients, row by row: added to a lent slice, and a test of all rows that adds nothing.
-mod adding;
-mod testing;
+// Inner crate: a batch's rows taken through the layers, to test them or to add their gradients to a lent slice; and the
+// scale that these have.
+mod scale;
+mod taking;
 
-pub use adding::accumulate;
-pub use testing::test_rows;
+pub use scale::scale_of;
+pub use taking::take_rows;

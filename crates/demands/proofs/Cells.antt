@@ -4,13 +4,13 @@ use native.Mathlib.Nat.{lt-suc-self}
 use native.Mathlib.Omega.{arith}
 use mathlib.Core.Path.{_≡_, refl, sym, ap, _∙_, subst}
 use mathlib.Core.Bool.{Bool, true, false, not}
-use mathlib.Core.List.{List, _++_, [], append-nil}
+use mathlib.Core.List.{List, _++_}
 use lib.Dec.{T, ltb, ltb→lt, nltb→le}
-use lib.ListN.{length, drop, getD, length-append, List·getD-append, List·getD-eq-default}
+use lib.ListN.{length, drop, length-append, List·getD-append, List·getD-eq-default}
 use lib.Seq.{getD-append-add}
 use lib.Ieee.{Float, nan}
 use Rattle.floats.specs.Sums.{at, tabulate, flatTo}
-use Rattle.floats.proofs.Loops.{tab-length, tab-get, flat-length}
+use Rattle.floats.proofs.Loops.{tab-length, table-get, flat-length}
 use Rattle.layers.specs.Basis.{Basis}
 use Rattle.gradients.specs.Gradient.{slotOf, edgeSlots, nodeSlots, layerSlots}
 use Rattle.gradients.proofs.Edges.{node-length}
@@ -31,9 +31,6 @@ by-length {X} p n f h = go (ltb p n) (ltb→lt p n) (nltb→le p n)
     go false a b = h (b tt)
 
 -- ---- a table, by its places
-pub table-get : {A : Type 0} (f : ℕ → A) (n p : ℕ) (x : A) → p < n → getD (tabulate f n) p x ≡ f p
-table-get {A} f n p x h = ap (λ (ys : List A). getD ys p x) (sym (append-nil (tabulate f n))) ∙ tab-get f n p h [] x
-
 pub table-at : (f : ℕ → Float) (n p : ℕ) → p < n → at (tabulate f n) p ≡ f p
 table-at f n p h = table-get f n p nan h
 

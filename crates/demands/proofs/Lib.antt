@@ -8,6 +8,7 @@ pub mod Cells
 pub mod Rows
 pub mod Rates
 pub mod Moves
+pub mod Gathered
 pub mod Steps
 pub mod Training
 pub mod Demand

@@ -13,7 +13,7 @@ use lib.Seq.{getD-append-add}
 use lib.Ieee.{Float}
 use borrow.Author.Tests.{eqb-true, leb-true}
 use Rattle.floats.specs.Sums.{at, tabulate}
-use Rattle.floats.proofs.Loops.{tab-length, flat-get, flat-place, room}
+use Rattle.floats.proofs.Loops.{tab-length, flat-get, flat-place, room, table-get}
 use Rattle.spline.specs.declared.Grid.{Grid}
 use Rattle.layers.specs.Net.{netOf, basisOf}
 use Rattle.layers.specs.Widths.{widthAt, inputWidth}
@@ -28,7 +28,7 @@ use Rattle.touched_row.proofs.Rows.{rowLayer, row-length}
 use Rattle.visit_map.specs.Visits.{anyTo, touchedIn, byteOf, byteAt, marksOf}
 use Rattle.demands.specs.Silent.{placeOf, RowSilent}
 use Rattle.demands.specs.Unmarked.{unmarked}
-use Rattle.demands.proofs.Cells.{by-length, table-get}
+use Rattle.demands.proofs.Cells.{by-length}
 
 -- ---- the test of a coefficient, at its place among all that a row touches
 module _ (g : Grid) (ps : List Float) (ws : List ℕ) (xs : List Float) (wide : length xs ≡ widthAt ws 0) where

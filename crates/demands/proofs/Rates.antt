@@ -10,7 +10,7 @@ use lib.Ieee.Scale.{finite}
 use lib.Ieee.Positive.{positive}
 use lib.Ieee.Fits.{and-l, and-r}
 use Rattle.floats.specs.Binary32.{zero32}
-use Rattle.training.specs.Train.{rateSound}
+use Rattle.update.specs.Update.{rateSound}
 
 -- ---- `le` of a value without size or with a minus sign, and +0.0
 or-left : (a b : Bool) → T a → T (a || b)

@@ -27,7 +27,7 @@ use Rattle.admission.specs.Admission.{upTo9InTraining}
 use Rattle.gradients.specs.Gradient.{slotOf, backOf, inputGradient, backLayer, layerSlots}
 use Rattle.row_gradients.specs.Backward.{outputGradient, upsOf, rowSlots, rowGradient}
 use Rattle.gradients.proofs.Edges.{layer-length}
-use Rattle.batch_gradients.specs.Accumulate.{gathered}
+use Rattle.batch_gradients.specs.Accumulate.{scaleOf, gathered}
 use Rattle.update.specs.Update.{movedOf}
 use Rattle.forward.specs.Forward.{passRefusal}
 use Rattle.prediction.specs.Predict.{outputsOver}
@@ -35,7 +35,7 @@ use Rattle.touched_layer.specs.Touched.{touches, edgeTouched, nodeTouched, laye
 use Rattle.touched_row.specs.Touched.{rowTouched}
 use Rattle.visit_map.specs.Visits.{anyTo, byteOf, marksOf}
 use Rattle.loss.specs.Loss.{squared, sumAfter, lossRowFault, rowsLossFault, meanError}
-use Rattle.training_step.specs.Step.{scaleOf, gradientOf, stepFault, stepped}
+use Rattle.training_step.specs.Step.{gradientOf, stepFault, stepped}
 use Rattle.training.specs.Train.{from11To19, modelAfter, faultAt, upTo19, trainFault, trainDone}
 use Rattle.demands.specs.Start.{startingAt}
 use Rattle.demands.proofs.Places.{partOf}
@@ -121,7 +121,7 @@ module _ (N : Net) where
         layer-start N l (partOf N ws ps l) (nodesOf over ps ws xs l) (widthAt ws (suc l))
         ∙ ap (λ (ns : List Float). layerOf (basisAt under l) (partOf N ws ps l) ns (widthAt ws (suc l))) (nodes-start xs l)
 
-    finite-start : (xs : List Float) → nodesFinite over ps ws xs ≡ nodesFinite under ps ws xs
+    pub finite-start : (xs : List Float) → nodesFinite over ps ws xs ≡ nodesFinite under ps ws xs
     unfolding nodesFinite
     finite-start xs i = allTo (λ (l : ℕ). allFinite (nodes-start xs (suc l) i)) (length ws - 1)
 
@@ -223,15 +223,21 @@ module _ (N : Net) where
           (λ l h. layer-length (basisAt over l) _ _ _ ∙ same-sizes l (layers - suc l) ∙ sym (layer-length (basisAt under l) _ _ _))
           (λ l h. slots-start l (layers - suc l))
 
-    -- ---- a step: each cell sums its rows from +0.0
+    -- ---- gradients added to a slice that has no -0.0: each cell sums its rows from there
     module _ (xs ts : List Float) where
-      gathered-start : gradientOf over ps ws xs ts ≡ gradientOf under ps ws xs ts
-      unfolding gradientOf gathered
-      gathered-start =
-          let scale = scaleOf (rowsOf ws xs * outputWidth ws) in
-          let cells : (p r : ℕ) → _ = λ p r. gradient-start (rowAt xs (inputWidth ws) r) (rowAt ts (outputWidth ws) r) scale p in
-          tab-ext _ _ (length (zeros (length ps))) (λ p h.
-          sum-alike (at (zeros (length ps)) p) _ _ (rowsOf ws xs) (begins p h) (λ r l. cells p r .1) (λ r l. cells p r .0))
+      pub gathered-start : (v : ℕ) (scale : Float) (gs : List Float) (rows : ℕ) → ((p : ℕ) → p < length gs → Plain (at gs p))
+          → gathered over ps ws xs ts v scale gs rows ≡ gathered under ps ws xs ts v scale gs rows
+      unfolding gathered
+      gathered-start v scale gs rows plain =
+          let cells : (p r : ℕ) → _ = λ p r. gradient-start (rowAt xs (inputWidth ws) r) (rowAt ts v r) scale p in
+          tab-ext _ _ (length gs) (λ p h.
+          sum-alike (at gs p) _ _ rows (plain p h) (λ r l. cells p r .1) (λ r l. cells p r .0))
+
+      -- ---- a step: from +0.0
+      gradients-start : gradientOf over ps ws xs ts ≡ gradientOf under ps ws xs ts
+      unfolding gradientOf
+      gradients-start =
+          gathered-start (outputWidth ws) (scaleOf (rowsOf ws xs * outputWidth ws)) (zeros (length ps)) (rowsOf ws xs) begins
         where
           begins : (p : ℕ) → p < length (zeros (length ps)) → Plain (at (zeros (length ps)) p)
           begins p h =
@@ -240,7 +246,7 @@ module _ (N : Net) where
 
       stepped-start : (rate : Float) → stepped over ps ws xs ts rate ≡ stepped under ps ws xs ts rate
       unfolding stepped
-      stepped-start rate i = movedOf ps (gathered-start i) rate
+      stepped-start rate i = movedOf ps (gradients-start i) rate
 
       step-fault-start : (rate : Float) → stepFault over ps ws xs ts rate ≡ stepFault under ps ws xs ts rate
       unfolding stepFault

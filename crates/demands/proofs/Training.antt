@@ -16,7 +16,8 @@ use Rattle.batches.specs.Batch.{batchFault}
 use Rattle.refusals.proofs.Firsts.{both-pass, test-passes, first-before, first-clear}
 use Rattle.passes.specs.Pass.{rowsOf, from11To18}
 use Rattle.batch_gradients.specs.Calls.{Full}
-use Rattle.training.specs.Train.{rateSound, from11To19, modelAfter, faultAt}
+use Rattle.update.specs.Update.{rateSound}
+use Rattle.training.specs.Train.{from11To19, modelAfter, faultAt}
 use Rattle.demands.specs.Silent.{Places, Differ}
 use Rattle.demands.specs.Readings.{TrainReads}
 use Rattle.demands.specs.Alike.{LeftAlike}

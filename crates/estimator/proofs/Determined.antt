@@ -16,6 +16,10 @@ use Rattle.estimator.proofs.kan_train_step as step
 use Rattle.estimator.proofs.kan_train_step.Reads as step-reads
 use Rattle.estimator.proofs.kan_train as train
 use Rattle.estimator.proofs.kan_train.Reads as train-reads
+use Rattle.estimator.proofs.kan_accumulate as accumulate
+use Rattle.estimator.proofs.kan_accumulate.Reads as accumulate-reads
+use Rattle.estimator.proofs.kan_apply as apply
+use Rattle.estimator.proofs.kan_apply.Reads as apply-reads
 use Rattle.estimator.proofs.kan_visits as visits
 use Rattle.estimator.proofs.kan_visits.Reads as visits-reads
 use Rattle.estimator.proofs.kan_image_write as write
@@ -53,6 +57,14 @@ step-determined κs a r r′ w w′ p q =
 pub train-determined : Determined train.ended train-reads.Post
 train-determined κs a r r′ w w′ p q =
     (cc, refl & refl & refl & refl & (cc) & refl & refl & refl & refl & (cc) & (cc) & (cc) & (cc) & refl)
+
+pub accumulate-determined : Determined accumulate.ended accumulate-reads.Post
+accumulate-determined κs a r r′ w w′ p q =
+    (cc, refl & refl & refl & refl & refl & refl & refl & refl & (cc) & (cc) & (cc) & refl)
+
+pub apply-determined : Determined apply.ended apply-reads.Post
+apply-determined κs a r r′ w w′ p q =
+    (cc, refl & refl & refl & refl & (cc) & refl & refl & (cc) & refl)
 
 pub visits-determined : Determined visits.ended visits-reads.Post
 visits-determined κs a r r′ w w′ p q =

@@ -8,6 +8,8 @@ ghost use Rattle.initialisation.specs.Initialise.{Initialised};
 ghost use Rattle.prediction.specs.Predict.{Predicted};
 ghost use Rattle.loss.specs.Loss.{Lost, lossRefusal};
 ghost use Rattle.training.specs.Train.{Stepped, Trained, trainingRefusal, stepsDone};
+ghost use Rattle.split_training.specs.Accumulating.{Accumulated};
+ghost use Rattle.split_training.specs.Applying.{Applied};
 ghost use Rattle.visit_map.specs.Visits.{Visited};
 ghost use Rattle.image_reading.specs.Image.{describeOf, describedRefusal};
 ghost use Rattle.image_writing.specs.Writing.{ImageWritten};
@@ -185,6 +187,57 @@ pub extern "C" fn kan_train(
         work,
     );
     tell_training(answer, done, carried)
+}
+
+#[no_mangle]
+pub extern "C" fn kan_accumulate(
+    widths: &[usize],
+    intervals: usize,
+    lo: f32,
+    hi: f32,
+    model: &[f32],
+    inputs: &[f32],
+    targets: &[f32],
+    total: usize,
+    gradients: &mut [f32],
+    work: &mut [f32],
+    carried: &mut usize,
+) -> u32
+    ensures { λ r. ⌜ Linked outcomeRefusal r (now (carried .exit)) (λ o.
+        Accumulated (netOf (gridOf intervals lo hi)) (now (widths .entry)) (gridOf intervals lo hi) (now (model .entry))
+        (now (inputs .entry)) (now (targets .entry)) total (now (gradients .entry)) (now (work .entry)) o
+        (now (gradients .exit)) (now (work .exit))) ⌝ }
+{
+    let outcome = split_training::accumulate(
+        widths,
+        Grid { intervals, lo, hi },
+        model,
+        inputs,
+        targets,
+        total,
+        gradients,
+        work,
+    );
+    tell(outcome, carried)
+}
+
+#[no_mangle]
+pub extern "C" fn kan_apply(
+    widths: &[usize],
+    intervals: usize,
+    lo: f32,
+    hi: f32,
+    model: &mut [f32],
+    gradients: &[f32],
+    rate: f32,
+    carried: &mut usize,
+) -> u32
+    ensures { λ r. ⌜ Linked outcomeRefusal r (now (carried .exit)) (λ o.
+        Applied (now (widths .entry)) (gridOf intervals lo hi) (now (model .entry)) (now (gradients .entry)) rate o
+        (now (model .exit))) ⌝ }
+{
+    let outcome = split_training::apply(widths, Grid { intervals, lo, hi }, model, gradients, rate);
+    tell(outcome, carried)
 }
 
 #[no_mangle]

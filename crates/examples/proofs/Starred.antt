@@ -11,21 +11,21 @@ use Rattle.refusals.specs.Refusals.{firstTo, doneTo}
 use Rattle.batches.specs.Batch.{rowsIn, rowFault, rowsFault, batchFault}
 use Rattle.passes.specs.Pass.{nodesOf, nodesFinite, from11To18}
 use Rattle.config.specs.Config.{configFault, shapeSound, productsFit, intervalsSound, endsSound, stepsSound, domainSound}
-use Rattle.admission.specs.Admission.{upTo8, upTo9, upTo9InTraining}
+use Rattle.admission.specs.Admission.{upTo8, upTo9, upTo9ForNodes, upTo9InTraining}
 use Rattle.loss.specs.Loss.{sumAfter}
 use Rattle.gradients.specs.Gradient.{slotOf, backOf, backLayer, layerSlots}
 use Rattle.row_gradients.specs.Backward.{upsOf, rowGradient}
 use Rattle.batch_gradients.specs.Accumulate.{gathered}
-use Rattle.update.specs.Update.{movedOf}
+use Rattle.update.specs.Update.{rateSound, movedOf}
 use Rattle.training_step.specs.Step.{gradientOf, stepFault, stepped}
-use Rattle.training.specs.Train.{rateSound, from11To19, modelAfter, upTo19, trainFault, trainDone}
+use Rattle.training.specs.Train.{from11To19, modelAfter, upTo19, trainFault, trainDone}
 use Rattle.examples.specs.Starred.{Starred}
 
 pub starred : Starred
 unfolding ofBits round add sub mul div neg sum eq lt le ofInt sumFrom tabulate allTo allFinite flatTo expOf widthOf knotOf portionOf
     indicatorOf blendOf coxOf outsideOf valueOf riseOf slopeOf siluOf siluDerivativeOf paramsTo widestTo widthsTo dotOf edgeWith edgeOf nodeOf
     layerOf nodesOf nodesFinite rowFault rowsIn firstTo doneTo rowsFault batchFault configFault shapeSound productsFit intervalsSound
-    endsSound stepsSound domainSound upTo8 upTo9 upTo9InTraining sumAfter from11To18 slotOf backOf backLayer layerSlots upsOf
+    endsSound stepsSound domainSound upTo8 upTo9 upTo9ForNodes upTo9InTraining sumAfter from11To18 slotOf backOf backLayer layerSlots upsOf
     rowGradient gathered movedOf gradientOf stepFault stepped rateSound from11To19 modelAfter upTo19 trainFault
     trainDone
 starred =

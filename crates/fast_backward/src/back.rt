@@ -5,10 +5,9 @@ ghost use mathlib.Core.Bool.{true};
 ghost use Prim.Native.Nat.{_+_};
 ghost use lib.ListN.{length};
 ghost use Rattle.floats.specs.Places.{partAt, writtenAt};
-ghost use Rattle.floats.specs.Sums.{sumTo, sumFrom};
+ghost use Rattle.floats.specs.Sums.{sumTo};
 ghost use Rattle.exponential.specs.Steps.{Powers};
 ghost use Rattle.local_basis.specs.Meshes.{Meshed};
-ghost use Rattle.layers.specs.Basis.{Basis};
 ghost use Rattle.layers.specs.Net.{basisOf};
 ghost use Rattle.fast_forward.specs.Inputs.{Within, Edges};
 ghost use Rattle.gradients.specs.Gradient.{backLayer};
@@ -72,6 +71,7 @@ fn back_four(
 
 fn back_plain(
     mesh: Mesh,
+    table: &[u32; 256],
     params: &[f32],
     work: &mut [f32],
     from: usize,
@@ -79,7 +79,8 @@ fn back_plain(
     to: usize,
     n: usize,
 )
-    requires { ⌜ Meshed mesh × Within (mesh .grid) (now params) (now work) from w to n (to + w + n) ⌝ }
+    requires { ⌜ Meshed mesh × Powers (now table)
+        × Within (mesh .grid) (now params) (now work) from w to n (to + w + n) ⌝ }
     ensures { λ _. ⌜ now (work .exit) ≡ writtenAt (now (work .entry)) to
         (backLayer (basisOf (mesh .grid)) (now (params .entry)) (partAt (now (work .entry)) from w)
         (partAt (now (work .entry)) (to + w) n)) ⌝ }
@@ -91,6 +92,7 @@ fn back_plain(
         let place = to + i;
         let gradient = gradients::input_gradient(
             mesh.grid,
+            table,
             params,
             &work[from..end],
             &work[ups..ups_end],
@@ -119,6 +121,6 @@ pub fn back_layer(
     if mesh.calm {
         back_four(mesh, table, params, work, from, w, to, n);
     } else {
-        back_plain(mesh, params, work, from, w, to, n);
+        back_plain(mesh, table, params, work, from, w, to, n);
     }
 }

@@ -1,10 +1,10 @@
 -- Gradients of which none is -0.0: at the start, after a row's sums, in a part. Assumes nothing.
-use mathlib.Core.Path.{_≡_, sym, ap, _∙_, subst}
+use mathlib.Core.Path.{_≡_, sym, _∙_, subst}
 use Prim.Native.Nat.{ℕ, zero, suc, _+_, _-_, _≤_, _<_}
 use native.Mathlib.Nat.{lt-suc-self}
 use native.Mathlib.Omega.{arith}
 use mathlib.Core.Bool.{Bool, true, false, not}
-use mathlib.Core.List.{List, [], _++_, append-nil}
+use mathlib.Core.List.{List, _++_}
 use lib.Dec.{T, ltb, ltb→lt, nltb→le}
 use lib.ListN.{length, take, drop, length-append, List·getD-append}
 use lib.Seq.{length-take-le, getD-append-add, getD-take, getD-drop}
@@ -13,7 +13,7 @@ use lib.Ieee.Fits.{mul-fits}
 use Rattle.floats.specs.Binary32.{zero32}
 use Rattle.floats.specs.Sums.{tabulate, allTo, flatTo, at, zeros}
 use Rattle.floats.specs.Zeros.{isMinusZero}
-use Rattle.floats.proofs.Loops.{tab-length, tab-get, all-each}
+use Rattle.floats.proofs.Loops.{tab-length, tab-get, all-each, table-get}
 use Rattle.floats.proofs.Sums.{Plain, plain-zero, add-plain}
 use Rattle.local_basis.proofs.Found.{yes}
 use Rattle.layers.specs.Basis.{Basis}
@@ -61,7 +61,7 @@ each-table : (P : Float → Type 0) (f : ℕ → Float) (n k : ℕ) → k < leng
     → P (at (tabulate f n) k)
 each-table P f n k h p =
     let l : k < n = omega (arith, tab-length f n) in
-    subst P (sym (ap (λ (ys : List Float). at ys k) (sym (append-nil (tabulate f n))) ∙ tab-get f n k l [] nan)) p
+    subst P (sym (table-get f n k nan l)) p
 
 -- ---- sums: what is added is an f32 too, as every product is
 abbrev pub Held : List Float → Type 0

@@ -14,7 +14,6 @@ ghost use Rattle.exponential.specs.Steps.{Powers};
 ghost use Rattle.spline.specs.Activation.{siluOf};
 ghost use Rattle.local_basis.specs.Meshes.{Meshed};
 ghost use Rattle.local_basis.specs.Fours.{Finite, Values};
-ghost use Rattle.layers.specs.Basis.{Basis};
 ghost use Rattle.layers.specs.Net.{basisOf};
 ghost use Rattle.gradients.specs.Gradient.{slotOf, layerSlots};
 ghost use Rattle.gradients.specs.Steps.{plusOf, Cells};
@@ -142,6 +141,6 @@ pub fn add_layer(
     if mesh.calm & clean {
         add_inputs(mesh, table, params, inputs, ups, gradients);
     } else {
-        gradients::add_layer(mesh.grid, params, inputs, ups, gradients);
+        gradients::add_layer(mesh.grid, table, params, inputs, ups, gradients);
     }
 }

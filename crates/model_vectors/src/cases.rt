@@ -3,4 +3,5 @@ pub fn agrees(tag: u8, words: &[u64]) -> bool {
     training_cases::agrees(tag, words)
         | image_cases::agrees(tag, words)
         | visit_cases::agrees(tag, words)
+        | split_cases::agrees(tag, words)
 }

@@ -1,5 +1,6 @@
-// Program: runs every case of three lists, the settled examples of training, of images and of the visit map,
-// against the proved crates, and prints for each list how many cases of each tag agree. Its file `stdout` says that all do.
+// Program: runs every case of four lists, the settled examples of training, of images, of the visit map and of training in
+// two calls, against the proved crates, and prints for each list how many cases of each tag agree. Its file `stdout` says
+// that all do.
 mod cases;
 
 use replay::Line;
@@ -72,4 +73,5 @@ fn main() {
     run_file(b"training", b"training.txt");
     run_file(b"images", b"images.txt");
     run_file(b"visits", b"visits.txt");
+    run_file(b"split", b"split.txt");
 }

@@ -1,9 +1,9 @@
 -- A row's gradient as a whole: made of values and gradients in their places, its length, sums with it that are never
 -- -0.0, and a row's way there and back. Assumes nothing.
-use mathlib.Core.Path.{_≡_, sym, ap, _∙_}
-use mathlib.Core.Bool.{Bool, true, false, false≢true}
+use mathlib.Core.Path.{_≡_, refl, sym, ap, _∙_}
+use mathlib.Core.Bool.{Bool, true, false}
 use mathlib.Core.List.{List}
-use Prim.Native.Nat.{ℕ, zero, suc, _+_, _-_, _<_}
+use Prim.Native.Nat.{ℕ, zero, suc, _+_, _-_}
 use native.Mathlib.Numerals.{add-one}
 use native.Mathlib.Omega.{arith}
 use lib.ListN.{length, take, drop}
@@ -21,7 +21,7 @@ use Rattle.gradients.proofs.Edges.{layer-length}
 use Rattle.fast_gradients.specs.Adding.{Clean}
 use Rattle.fast_gradients.proofs.Clean.{Held, flat-held, layer-held, clean-plus}
 use Rattle.row_gradients.specs.Backward.{upsOf, rowSlots, rowGradient}
-use Rattle.row_gradients.specs.Calls.{twoN, WorkFits, Nodes, NodesFilled, RowAdded}
+use Rattle.row_gradients.specs.Calls.{twoN, WorkFits, Nodes, NodesFilled, RowTaken}
 use Rattle.row_gradients.specs.Steps.{Ups, Backed, slotsIn}
 use Rattle.row_gradients.proofs.Slots.{flat-params}
 use Rattle.row_gradients.proofs.Spans.{refit}
@@ -61,9 +61,14 @@ module _ (N : Net) (ps : List Float) (ws : List ℕ) (xs ts : List Float) (scale
   row-clean n ds e p c = rw p (clean-plus n ds (rowGradient N ps ws xs ts scale) row-held c)
 
 -- ---- after the way forward: a row with a value that is not finite adds nothing
-pub stopped : {N : Net} {ps : List Float} {ws : List ℕ} {xs ts : List Float} {scale : Float} {gs W W′ : List Float}
-    {r : Bool} → r ≡ false → NodesFilled N ps ws xs W W′ r → RowAdded N ps ws xs ts scale gs W gs W′ false
-stopped e y = record { finite = sym e ∙ y .finite; gradients = λ z. absurd (false≢true z); rest = further y }
+pub stopped : {N : Net} {ps : List Float} {ws : List ℕ} {xs ts : List Float} {scale : Float} {add : Bool}
+    {gs W W′ : List Float} {r : Bool} → r ≡ false → NodesFilled N ps ws xs W W′ r
+    → RowTaken N ps ws xs ts scale add gs W gs W′ false
+stopped e y = record {
+  finite = sym e ∙ y .finite;
+  gradients = refl;
+  rest = further y;
+}
 
 -- a row that passes has all its values in the work, itself at the front
 pub record RowPassed (g : Grid) (ps : List Float) (ws : List ℕ) (xs W W′ : List Float) : Type 0 where
@@ -91,15 +96,20 @@ module _ {g : Grid} {ps : List Float} {ws : List ℕ} {xs W W′ : List Float} (
   pub row-nodes : Nodes (netOf g) ps ws (take (widthAt ws 0) W′) W′ (length ws)
   row-nodes = rw (t .front) (t .nodes)
 
+  -- there, and no further
+  pub only-tested : {ts : List Float} {scale : Float} {add : Bool} {gs : List Float} → add ≡ false
+      → RowTaken (netOf g) ps ws xs ts scale add gs W gs W′ true
+  only-tested e = record { finite = sym (t .finite); gradients = rw e; rest = t .rest }
+
   -- there and back, and every layer's part added
-  pub added : {ts : List Float} {scale : Float} {gs gs′ W″ : List Float}
+  pub added : {ts : List Float} {scale : Float} {add : Bool} {gs gs′ W″ : List Float} → add ≡ true
       → Backed (netOf g) ps ws (take (widthAt ws 0) W′) ts scale W′ W″
       → gs′ ≡ plusOf gs (flatTo (slotsIn (netOf g) ps ws W″) (length ws - 1))
-      → RowAdded (netOf g) ps ws xs ts scale gs W gs′ W″ true
-  added {ts} {scale} {gs} {gs′} {W″} y p =
+      → RowTaken (netOf g) ps ws xs ts scale add gs W gs′ W″ true
+  added {ts} {scale} {gs = gs} {gs′} {W″} e y p =
       let back : Backed (netOf g) ps ws xs ts scale W′ W″ = rw (t .front) at y in
       record {
         finite = sym (t .finite);
-        gradients = λ _. p ∙ ap (plusOf gs) (row-slots (netOf g) ps ws xs ts scale W″ (back .nodes) (back .ups));
+        gradients = rw e (p ∙ ap (plusOf gs) (row-slots (netOf g) ps ws xs ts scale W″ (back .nodes) (back .ups)));
         rest = back .rest ∙ t .rest;
       }

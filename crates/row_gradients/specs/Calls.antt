@@ -1,7 +1,7 @@
 -- What the two calls of this crate ask and promise of a row in its work. Definitions only.
-use Prim.Native.Nat.{ℕ, _+_, _-_, _*_, _≤_, _<_}
+use Prim.Native.Nat.{ℕ, _+_, _*_, _≤_, _<_}
 use mathlib.Core.Path.{_≡_}
-use mathlib.Core.Bool.{Bool, true}
+use mathlib.Core.Bool.{Bool, true, cond, _&&_}
 use mathlib.Core.List.{List}
 use lib.ListN.{length, drop}
 use lib.Ieee.{Float}
@@ -34,9 +34,9 @@ pub record NodesFilled (N : Net) (ps : List Float) (ws : List ℕ) (xs W W′ : 
   pub nodes : r ≡ true → Nodes N ps ws xs W′ (length ws)
   pub rest : drop (nodesIn ws) W′ ≡ drop (nodesIn ws) W
 
--- a row: whether each value is finite (20), then its gradients added, and the work past 2N as it was
-pub record RowAdded (N : Net) (ps : List Float) (ws : List ℕ) (xs ts : List Float) (scale : Float)
+-- a row: whether each value is finite (20), then its gradients added where `add` says so, and the work past 2N as it was
+pub record RowTaken (N : Net) (ps : List Float) (ws : List ℕ) (xs ts : List Float) (scale : Float) (add : Bool)
     (gs W gs′ W′ : List Float) (r : Bool) : Type 0 where
   pub finite : r ≡ nodesFinite N ps ws xs
-  pub gradients : r ≡ true → gs′ ≡ plusOf gs (rowGradient N ps ws xs ts scale)
+  pub gradients : gs′ ≡ cond (r && add) (plusOf gs (rowGradient N ps ws xs ts scale)) gs
   pub rest : drop (twoN ws) W′ ≡ drop (twoN ws) W

@@ -1,11 +1,12 @@
 // What a row adds to the gradients of all parameters, layer by layer.
 ghost use mathlib.Core.Path.{_≡_};
+ghost use mathlib.Core.Bool.{true};
 ghost use Prim.Native.Nat.{_-_};
 ghost use lib.ListN.{length};
 ghost use Rattle.floats.specs.Sums.{flatTo};
 ghost use Rattle.exponential.specs.Steps.{Powers};
 ghost use Rattle.local_basis.specs.Fours.{Finite};
-ghost use Rattle.layers.specs.Net.{netOf, Net};
+ghost use Rattle.layers.specs.Net.{netOf};
 ghost use Rattle.layer_cursor.specs.Cursor.{Stands};
 ghost use Rattle.gradients.specs.Steps.{plusOf};
 ghost use Rattle.fast_gradients.specs.Adding.{Clean};
@@ -15,7 +16,7 @@ use layer_cursor::Layer;
 use spline::Grid;
 
 // Every layer's part, from the values and gradients at its nodes; `end` is the place past the last layer.
-// No gradient is -0.0 yet, and none becomes it: a sum is -0.0 only where both its terms are.
+// `clean` says that no gradient is -0.0. Then none becomes it: a sum is -0.0 only where both its terms are.
 pub fn add_layers(
     grid: Grid,
     table: &[u32; 256],
@@ -24,10 +25,12 @@ pub fn add_layers(
     work: &[f32],
     end: Layer,
     gradients: &mut [f32],
+    clean: bool,
 )
     requires { ⌜ WorkFits grid (now model) (now widths) (now work) × (length (now gradients) ≡ length (now model))
         × Stands grid (now widths) (length (now widths) - 1) end × Powers (now table)
-        × Finite (length (now model)) (now model) × Clean (length (now gradients)) (now gradients) ⌝ }
+        × Finite (length (now model)) (now model)
+        × (clean ≡ true → Clean (length (now gradients)) (now gradients)) ⌝ }
     ensures { λ _. ⌜ now (gradients .exit) ≡ plusOf (now (gradients .entry))
         (flatTo (slotsIn (netOf grid) (now (model .entry)) (now (widths .entry)) (now (work .entry)))
         (length (now (widths .entry)) - 1)) ⌝ }
@@ -49,7 +52,7 @@ pub fn add_layers(
             &work[from..to],
             &work[ups..ups_end],
             &mut gradients[at..],
-            true,
+            clean,
         );
         layer = next;
     }

@@ -2,21 +2,22 @@
 // second, each layer's after those of the layer before. The slice is lent whole, so each step reads parts of it and
 // writes it place by place.
 ghost use mathlib.Core.Path.{_≡_};
+ghost use mathlib.Core.Bool.{true};
 ghost use Prim.Native.Nat.{_-_};
 ghost use lib.ListN.{length};
 ghost use Rattle.exponential.specs.Steps.{Powers};
 ghost use Rattle.local_basis.specs.Fours.{Finite};
-ghost use Rattle.layers.specs.Net.{netOf, Net};
+ghost use Rattle.layers.specs.Net.{netOf};
 ghost use Rattle.layers.specs.Widths.{inputWidth, outputWidth};
 ghost use Rattle.layer_cursor.specs.Cursor.{Walkable, Stands};
 ghost use Rattle.fast_gradients.specs.Adding.{Clean};
-ghost use Rattle.row_gradients.specs.Calls.{WorkFits, RowAdded};
+ghost use Rattle.row_gradients.specs.Calls.{WorkFits, RowTaken};
 
 mod adding;
 mod backward;
 mod forward;
 
-pub use forward::fill_nodes;
+use forward::fill_nodes;
 use layer_cursor::Layer;
 use spline::Grid;
 
@@ -33,9 +34,10 @@ fn walk_end(widths: &[usize], grid: Grid) -> Layer
     layer
 }
 
-// Adds a row's gradients, unless a node value of it is not finite (20): then they are as they were. Answers whether it
-// did.
-pub fn add_row(
+// Takes a row through the layers, up to a node value that is not finite (20), and answers whether there was none; then it
+// takes the row back too and adds its gradients, where `add` says so. `clean` says that no gradient is -0.0, so that zeros
+// need not be added.
+pub fn take_row(
     grid: Grid,
     table: &[u32; 256],
     widths: &[usize],
@@ -45,20 +47,25 @@ pub fn add_row(
     scale: f32,
     gradients: &mut [f32],
     work: &mut [f32],
+    add: bool,
+    clean: bool,
 ) -> bool
     requires { ⌜ WorkFits grid (now model) (now widths) (now work) × (length (now gradients) ≡ length (now model))
         × (length (now row) ≡ inputWidth (now widths)) × (length (now targets) ≡ outputWidth (now widths))
         × Powers (now table) × Finite (length (now model)) (now model)
-        × Clean (length (now gradients)) (now gradients) ⌝ }
-    ensures { λ r. ⌜ RowAdded (netOf grid) (now (model .entry)) (now (widths .entry)) (now (row .entry))
-        (now (targets .entry)) scale (now (gradients .entry)) (now (work .entry)) (now (gradients .exit))
+        × (clean ≡ true → Clean (length (now gradients)) (now gradients)) ⌝ }
+    ensures { λ r. ⌜ RowTaken (netOf grid) (now (model .entry)) (now (widths .entry)) (now (row .entry))
+        (now (targets .entry)) scale add (now (gradients .entry)) (now (work .entry)) (now (gradients .exit))
         (now (work .exit)) r ⌝ }
 {
     if !fill_nodes(grid, table, widths, model, row, work) {
         return false;
     }
+    if !add {
+        return true;
+    }
     let end = walk_end(widths, grid);
     backward::back_layers(grid, table, widths, model, targets, scale, end, work);
-    adding::add_layers(grid, table, widths, model, work, end, gradients);
+    adding::add_layers(grid, table, widths, model, work, end, gradients, clean);
     true
 }

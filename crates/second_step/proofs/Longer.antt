@@ -25,16 +25,16 @@ use Rattle.layers.specs.Layer.{dotOf, edgeWith, edgeOf, nodeOf, layerOf}
 use Rattle.batches.specs.Batch.{rowsIn, rowFault, rowsFault, batchFault}
 use Rattle.passes.specs.Pass.{nodesOf, nodesFinite, rowRefusal, from11To18}
 use Rattle.config.specs.Config.{unitGrid, configFault, shapeSound, productsFit, intervalsSound, endsSound, stepsSound, domainSound}
-use Rattle.admission.specs.Admission.{upTo8, upTo9, upTo9InTraining}
+use Rattle.admission.specs.Admission.{upTo8, upTo9, upTo9ForNodes, upTo9InTraining}
 use Rattle.touched_layer.specs.Touched.{blank, touchesBy, touches, edgeTouched, nodeTouched, layerTouched}
 use Rattle.touched_row.specs.Touched.{rowTouched}
 use Rattle.visit_map.specs.Visits.{anyTo, marksOf, mapUpTo11, visitRefusal, visitCarried, visitMarks, Visited}
 use Rattle.gradients.specs.Gradient.{slotOf, backOf, backLayer, layerSlots}
 use Rattle.row_gradients.specs.Backward.{upsOf, rowGradient}
-use Rattle.batch_gradients.specs.Accumulate.{gathered}
-use Rattle.update.specs.Update.{movedOf}
-use Rattle.training_step.specs.Step.{scaleOf, gradientOf, stepFault, stepped}
-use Rattle.training.specs.Train.{rateSound, from11To19, modelAfter, faultAt, upTo19, trainFault, trainDone}
+use Rattle.batch_gradients.specs.Accumulate.{scaleOf, gathered}
+use Rattle.update.specs.Update.{rateSound, movedOf}
+use Rattle.training_step.specs.Step.{gradientOf, stepFault, stepped}
+use Rattle.training.specs.Train.{from11To19, modelAfter, faultAt, upTo19, trainFault, trainDone}
 use Rattle.demands.specs.Silent.{Differ}
 use Rattle.demands.specs.Unmarked.{unmarked}
 use Rattle.demands.proofs.Cells.{by-length}
@@ -127,7 +127,7 @@ after last n = modelAfter deepNet (ending last) deep (zero32 ∷ []) (one32 ∷ 
 begun : (checks zero32 ≡ 0) × (checks one32 ≡ 0)
 unfolding ofBits round add sub mul div neg sum eq lt le ofInt tabulate allTo allFinite widthOf knotOf paramsTo widestTo widthsTo rowsIn
     rowFault firstTo rowsFault batchFault configFault shapeSound productsFit intervalsSound endsSound stepsSound domainSound upTo8
-    upTo9InTraining from11To18 rateSound from11To19 upTo19
+    upTo9ForNodes upTo9InTraining from11To18 rateSound from11To19 upTo19
 begun = (refl, refl)
 
 trains : (last : Float) (n : ℕ) (left : List Float) → checks last ≡ 0 → firstTo (faults last) n ≡ 0 → after last n ≡ left → Trains last n left

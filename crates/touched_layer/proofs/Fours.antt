@@ -2,7 +2,7 @@
 use mathlib.Core.Path.{_≡_, sym, ap, _∙_, subst}
 use mathlib.Core.Logic.{_⊎_, inl, inr}
 use mathlib.Core.Bool.{Bool, true, false, not, cond}
-use mathlib.Core.List.{List, [], append-nil}
+use mathlib.Core.List.{List}
 use Prim.Native.Nat.{ℕ, zero, suc, _+_, _-_, _≤_, _<_}
 use native.Mathlib.Nat.{add-zero}
 use native.Mathlib.Omega.{arith}
@@ -12,7 +12,7 @@ use lib.Seq.{getD-set-same, getD-set-other, ext-getD}
 use lib.Ieee.{Float}
 use Rattle.floats.specs.Sums.{tabulate}
 use Rattle.floats.specs.Zeros.{Alike}
-use Rattle.floats.proofs.Loops.{tab-length, tab-get}
+use Rattle.floats.proofs.Loops.{tab-length, table-get}
 use Rattle.spline.specs.declared.Grid.{Grid}
 use Rattle.spline.specs.Spline.{slopeOf}
 use Rattle.local_basis.specs.declared.Eight.{Eight}
@@ -39,7 +39,7 @@ mark-other k j b ms n = getD-set-other ms k j _ 0 n
 -- ---- a table's test at a place
 module _ (t : ℕ → Bool) (n p : ℕ) where
   tested : p < n → getD (tabulate t n) p false ≡ t p
-  tested h = ap (λ (l : List Bool). getD l p false) (sym (append-nil (tabulate t n))) ∙ tab-get t n p h [] false
+  tested h = table-get t n p false h
 
   untested : (p < n → t p ≡ false) → getD (tabulate t n) p false ≡ false
   untested f = go (ltb p n) (ltb→lt p n) (nltb→le p n)

@@ -1,10 +1,9 @@
 -- The whole calls from their parts: refused before any work, or worked and swept. Assumes nothing.
 use mathlib.Core.Path.{_≡_, refl, sym, ap, _∙_}
-use mathlib.Core.Bool.{Bool, true, false}
+use mathlib.Core.Bool.{true, false}
 use mathlib.Core.List.{List, _++_}
 use Prim.Native.Nat.{ℕ, zero, suc, _+_, _*_, _<_}
 use native.Mathlib.Nat.{le-trans, le-of-eq}
-use native.Mathlib.Omega.{arith}
 use lib.ListN.{length, drop}
 use lib.Ieee.{Float}
 use Rattle.passes.specs.Pass.{from11To18}
@@ -12,8 +11,8 @@ use Rattle.floats.specs.Sums.{zeros, allFinite}
 use Rattle.refusals.specs.declared.Refusal.{Refusal}
 use Rattle.refusals.specs.declared.Outcome.{Outcome}
 use Rattle.refusals.specs.declared.Outcome.the-variants.{Done, Refused as Not}
-use Rattle.refusals.specs.Refusals.{_otherwise_, _then_, firstTo, doneTo, past, outcomeOf}
-use Rattle.refusals.proofs.Firsts.{both-pass, then-first}
+use Rattle.refusals.specs.Refusals.{_otherwise_, _then_, outcomeOf}
+use Rattle.refusals.proofs.Firsts.{both-pass}
 use Rattle.spline.specs.declared.Grid.{Grid}
 use Rattle.layers.specs.Net.{Net}
 use Rattle.layers.specs.Widths.{inputWidth, outputWidth, parametersIn, nodesIn}
@@ -21,23 +20,24 @@ use Rattle.batches.specs.Batch.{batchFault}
 use Rattle.batches.specs.Sound.{SoundBatch}
 use Rattle.batches.proofs.Rows.{batch-sound}
 use Rattle.config.specs.Config.{carriedBy}
-use Rattle.admission.specs.Admission.{upTo9InTraining, swept}
+use Rattle.admission.specs.Admission.{upTo9InTraining}
 use Rattle.admission.proofs.Passed.{Past9InTraining, past9-in-training, swept-past}
 use Rattle.passes.proofs.Past9.{walkable}
-use Rattle.training_step.specs.Stages.{TrainingRoom, Rests}
+use Rattle.update.specs.Update.{rateSound}
+use Rattle.training_step.specs.Stages.{TrainingRoom}
 use Rattle.training.specs.declared.calls.Stop.{Stop}
 use Rattle.training.specs.declared.calls.Training.{Training}
 use Rattle.training.specs.declared.calls.Training.the-variants.{All, Stopped}
-use Rattle.training.specs.Train.{rateSound, from11To19, modelAfter, faultAt, trainingOf, upTo19, trainFault, trainDone, Trained, Stepped}
-use Rattle.training.specs.Stages.{stepsFault, stepsMade, StepsDone, TrainDone}
+use Rattle.training.specs.Train.{from11To19, modelAfter, trainingOf, upTo19, trainFault, trainDone, Trained, Stepped}
+use Rattle.training.specs.Stages.{StepsDone, TrainDone}
 use Rattle.training.proofs.Steps.{rests-none}
 
 -- ---- what the checks up to 9 give
 pub roomy : (ws : List ℕ) (g : Grid) (ps gs W : List Float) → Past9InTraining ws g (length ps) (length gs) (length W)
     → TrainingRoom g ws ps gs W
 roomy ws g ps gs W f = record {
-  fits = record { walkable = walkable ws g (f .size); params = sym (f .model); work = f .work };
-  gradients = le-trans (le-of-eq (f .model)) (f .gradients);
+  fits = record { walkable = walkable ws g (f .nodes .size); params = sym (f .nodes .model); work = f .nodes .work };
+  gradients = le-trans (le-of-eq (f .nodes .model)) (f .gradients);
 }
 
 -- a sweep of as many numbers
@@ -99,7 +99,7 @@ module _ (N : Net) (ws : List ℕ) (g : Grid) (ps xs ts : List Float) (rate : Fl
   unfolding trainFault trainDone upTo19
   train-done steps r ps' gs₁ W₁ gs₂ W₂ e d p q =
       let f = past9-in-training ws g (length ps) (length gs) (length W) e in
-      let behind : drop P gs₁ ≡ drop P gs = rw (f .model) at (d .rests .gradients) in
+      let behind : drop P gs₁ ≡ drop P gs = rw (f .nodes .model) at (d .rests .gradients) in
       record {
         answer = rw e (d .answer);
         leaves = record {

@@ -1,13 +1,10 @@
 -- R10.9 to R10.11: `train_step` and `train`. The steps done are all that were asked for, or those before the first
 -- refused one, and the model is as that many left it; 0 steps make all checks up to 19. Definitions only.
-use Prim.Native.Nat.{ℕ, zero, suc, _+_, _*_}
+use Prim.Native.Nat.{ℕ, zero, suc, _*_}
 use mathlib.Core.Path.{_≡_}
-use mathlib.Core.Bool.{Bool, not, _&&_}
 use mathlib.Core.List.{List}
 use lib.ListN.{length}
-use lib.Ieee.{Float, le}
-use lib.Ieee.Scale.{finite}
-use Rattle.floats.specs.Binary32.{zero32}
+use lib.Ieee.{Float}
 use Rattle.refusals.specs.declared.Refusal.{Refusal}
 use Rattle.refusals.specs.declared.Outcome.{Outcome}
 use Rattle.refusals.specs.Refusals.{_otherwise_, _then_, firstTo, doneTo, past, none, outcomeOf}
@@ -19,12 +16,10 @@ use Rattle.config.specs.Config.{carriedBy, parametersFor}
 use Rattle.admission.specs.Admission.{upTo9InTraining, swept}
 use Rattle.training.specs.declared.calls.Training.{Training}
 use Rattle.training.specs.declared.calls.Training.the-variants.{All, Stopped}
+use Rattle.update.specs.Update.{rateSound}
 use Rattle.training_step.specs.Step.{stepFault, stepped}
 
--- ---- R3.4: past check 9: 11, the batch, and R10.2: 19, the rate is not finite or not above 0
-unfoldable pub rateSound : Float → Bool
-rateSound rate = finite rate && not (le rate zero32)
-
+-- ---- R3.4: past check 9: 11, the batch, and R10.2: 19, the rate
 unfoldable pub from11To19 : List Float → List ℕ → List Float → List Float → Float → ℕ
 from11To19 ps ws xs ts rate = from11To18 ps ws xs ts then rateSound rate otherwise 19
 

@@ -2,12 +2,13 @@
 ghost use mathlib.Core.Path.{_≡_};
 ghost use Prim.Native.Nat.{_≤_, _<_};
 ghost use lib.ListN.{length};
-ghost use Rattle.layers.specs.Net.{netOf, Net};
+ghost use Rattle.layers.specs.Net.{netOf};
 ghost use Rattle.layers.specs.Widths.{inputWidth, outputWidth};
 ghost use Rattle.refusals.specs.Refusals.{_otherwise_, _then_};
 ghost use Rattle.batches.specs.Batch.{batchFault};
+ghost use Rattle.update.specs.Update.{rateSound};
 ghost use Rattle.training_step.specs.Stages.{TrainingRoom, StepReady};
-ghost use Rattle.training.specs.Train.{rateSound, trainingOf, Stepped, Trained};
+ghost use Rattle.training.specs.Train.{trainingOf, Stepped, Trained};
 ghost use Rattle.training.specs.Stages.{StepsDone, TrainDone};
 use admission::check_training_work;
 use config::Checked;
@@ -28,16 +29,6 @@ pub enum Training {
     Stopped(Stop),
 }
 
-// 19: the rate is finite and above 0.
-fn rate_sound(rate: f32) -> bool
-    ensures { λ r. ⌜ r ≡ rateSound rate ⌝ }
-{
-    if floats::is_finite(rate) {
-        return !(rate <= 0.0);
-    }
-    false
-}
-
 // The batch, and then the rate: 0 where both are sound.
 fn training_fault(widths: &[usize], inputs: &[f32], targets: &[f32], rate: f32) -> u32
     requires { ⌜ (2 ≤ length (now widths)) × (0 < inputWidth (now widths)) × (0 < outputWidth (now widths)) ⌝ }
@@ -46,7 +37,7 @@ fn training_fault(widths: &[usize], inputs: &[f32], targets: &[f32], rate: f32) 
 {
     let last = widths.len() - 1;
     let batch = batches::batch_fault(inputs, targets, widths[0], widths[last]);
-    let sound = rate_sound(rate);
+    let sound = update::rate_sound(rate);
     if batch != 0 {
         return batch;
     }

@@ -4,11 +4,9 @@ use mathlib.Core.Bool.{Bool, true, false, cond}
 use mathlib.Core.List.{List, [], _++_, append-nil}
 use Prim.Native.Nat.{ℕ, _-_, _*_, _≤_}
 use native.Mathlib.Omega.{arith}
-use lib.Dec.{eqb}
 use lib.ListN.{length, take, drop}
 use lib.Seq.{length-take-le, take-at, drop-at}
 use lib.Ieee.{Float}
-use borrow.Rule.Slice.PartMut.{putMid}
 use Rattle.floats.specs.Sums.{zeros}
 use Rattle.floats.proofs.Loops.{tab-length}
 use Rattle.layers.specs.Net.{Net}
@@ -18,12 +16,12 @@ use Rattle.fast_gradients.specs.Adding.{Clean}
 use Rattle.fast_gradients.proofs.Clean.{clean-zeros}
 use Rattle.refusals.specs.Refusals.{_otherwise_, past}
 use Rattle.passes.specs.Pass.{rowsOf}
-use Rattle.batch_gradients.specs.Accumulate.{gathered}
-use Rattle.batch_gradients.specs.Calls.{Accumulated}
+use Rattle.batch_gradients.specs.Accumulate.{scaleOf, gathered}
+use Rattle.batch_gradients.specs.Calls.{RowsTaken}
 use Rattle.update.specs.Update.{movedOf}
-use Rattle.update.specs.Calls.{Applied}
-use Rattle.training_step.specs.Step.{scaleOf, gradientOf, stepFault, stepped}
-use Rattle.training_step.specs.Stages.{Rests, GatherDone, StepDone}
+use Rattle.update.specs.Calls.{MovedOrLeft}
+use Rattle.training_step.specs.Step.{gradientOf, stepFault, stepped}
+use Rattle.training_step.specs.Stages.{GatherDone, StepDone}
 
 -- the front of a slice, as a part from 0 to n
 pub lent-front : (n : ℕ) (gs : List Float) → n ≤ length gs → length (take (n - 0) gs) ≡ n
@@ -45,12 +43,12 @@ module _ (N : Net) (ws : List ℕ) (ps xs ts : List Float) where
   targets-count b = b .wholeTargets ∙ ap (λ (n : ℕ). n * outputWidth ws) (sym (b .sameRows))
 
   -- the slice cleared in front, the gradients put there; the code comes by P as P - 0, from a part's two ends
-  pub gather-done : (gs W gs₁ ys W' : List Float) (r : Bool) → SoundBatch (inputWidth ws) (outputWidth ws) xs ts
-      → gs₁ ≡ zeros (length ps) ++ drop (length ps) gs → length ys ≡ length (take (length ps - 0) gs₁)
-      → Accumulated N ps ws xs ts (scaleOf (length ts)) (take (length ps - 0) gs₁) W ys W' r
+  pub gather-done : (gs W gs₁ ys W' : List Float) (r : Bool) (scale : Float) → scale ≡ scaleOf (length ts)
+      → SoundBatch (inputWidth ws) (outputWidth ws) xs ts → gs₁ ≡ zeros (length ps) ++ drop (length ps) gs → length ys ≡ length (take (length ps - 0) gs₁)
+      → RowsTaken N ps ws xs ts scale true (take (length ps - 0) gs₁) W ys W' r
       → GatherDone N ws ps xs ts gs W r (ys ++ drop (length ps - 0) gs₁) W'
   unfolding gradientOf
-  gather-done gs W gs₁ ys W' r b c l a =
+  gather-done gs W gs₁ ys W' r scale s b c l a =
       let n = length ps in
       let m = length ps - 0 in
       let d : m ≡ n = omega arith in
@@ -61,9 +59,10 @@ module _ (N : Net) (ws : List ℕ) (ps xs ts : List Float) where
         passed = a .passed;
         gradients = λ e.
             take-at ys (drop m gs₁) n k
-            ∙ a .gradients e
-            ∙ ap (λ (l : List Float). gathered N ps ws xs ts (outputWidth ws) (scaleOf (length ts)) l (rowsOf ws xs)) front
-            ∙ ap (λ (m : ℕ). gathered N ps ws xs ts (outputWidth ws) (scaleOf m) (zeros n) (rowsOf ws xs)) (targets-count b);
+            ∙ a .added e refl
+            ∙ ap (λ (l : List Float). gathered N ps ws xs ts (outputWidth ws) scale l (rowsOf ws xs)) front
+            ∙ ap (λ (a : Float). gathered N ps ws xs ts (outputWidth ws) a (zeros n) (rowsOf ws xs))
+            (s ∙ ap scaleOf (targets-count b));
         rests = record { gradients = drop-at ys (drop m gs₁) n k ∙ behind; work = a .rest };
       }
 
@@ -75,7 +74,7 @@ module _ (N : Net) (ws : List ℕ) (ps xs ts : List Float) where
 
   -- the move, or 23
   step-moved : (rate : Float) (gs W gs' W' ps' : List Float) (r b : Bool) → GatherDone N ws ps xs ts gs W r gs' W'
-      → r ≡ true → Applied ps (take (length ps - 0) gs') rate ps' b
+      → r ≡ true → MovedOrLeft ps (take (length ps - 0) gs') rate ps' b
       → StepDone N ws ps xs ts rate gs W (b otherwise 23) ps' gs' W'
   unfolding stepFault stepped
   step-moved rate gs W gs' W' ps' r b g e a = record { refusal = fault; model = moved b (a .model); rests = g .rests }
@@ -92,11 +91,11 @@ module _ (N : Net) (ws : List ℕ) (ps xs ts : List Float) where
       moved false e = e
 
   pub step-done : (rate : Float) (gs W gs' W' ps' : List Float) (r b : Bool) → GatherDone N ws ps xs ts gs W r gs' W'
-      → r ≡ true → Applied ps (take (length ps - 0) gs') rate ps' b → b ≡ true
+      → r ≡ true → MovedOrLeft ps (take (length ps - 0) gs') rate ps' b → b ≡ true
       → StepDone N ws ps xs ts rate gs W 0 ps' gs' W'
   step-done rate gs W gs' W' ps' r b g e a t = rw t at (step-moved rate gs W gs' W' ps' r b g e a)
 
   pub step-undone : (rate : Float) (gs W gs' W' ps' : List Float) (r b : Bool) → GatherDone N ws ps xs ts gs W r gs' W'
-      → r ≡ true → Applied ps (take (length ps - 0) gs') rate ps' b → b ≡ false
+      → r ≡ true → MovedOrLeft ps (take (length ps - 0) gs') rate ps' b → b ≡ false
       → StepDone N ws ps xs ts rate gs W 23 ps' gs' W'
   step-undone rate gs W gs' W' ps' r b g e a t = rw t at (step-moved rate gs W gs' W' ps' r b g e a)

@@ -3,18 +3,13 @@ use Prim.Native.Nat.{ℕ, _*_}
 use mathlib.Core.List.{List}
 use lib.ListN.{length}
 use lib.Ieee.{Float}
-use Rattle.floats.specs.Binary32.{_⊘_, two32, whole32}
 use Rattle.floats.specs.Sums.{zeros, allTo, allFinite}
 use Rattle.refusals.specs.Refusals.{_otherwise_, _then_}
 use Rattle.layers.specs.Net.{Net}
 use Rattle.layers.specs.Widths.{outputWidth}
 use Rattle.passes.specs.Pass.{rowsOf, finiteRow}
-use Rattle.batch_gradients.specs.Accumulate.{gathered}
+use Rattle.batch_gradients.specs.Accumulate.{scaleOf, gathered}
 use Rattle.update.specs.Update.{movedOf}
-
--- R10.3: 2 over the number of target values, which is exact in f32 (R1.6)
-abbrev pub scaleOf : ℕ → Float
-scaleOf n = two32 ⊘ whole32 n
 
 -- R10.6: the batch's gradients: each cell the sum over the rows, in order, from +0.0
 unfoldable pub gradientOf : Net → List Float → List ℕ → List Float → List Float → List Float

@@ -1,6 +1,6 @@
 // Inner crate: one step of training on a batch that is sound: gradients gathered from +0.0, then the model moved or left.
 ghost use Rattle.exponential.specs.Steps.{Powers};
-ghost use Rattle.layers.specs.Net.{netOf, Net};
+ghost use Rattle.layers.specs.Net.{netOf};
 ghost use Rattle.training_step.specs.Stages.{StepReady, GatherDone, StepDone};
 use spline::Grid;
 
@@ -19,10 +19,10 @@ fn gather(
     ensures { λ r. ⌜ GatherDone (netOf grid) (now (widths .entry)) (now (model .entry)) (now (inputs .entry)) (now (targets .entry))
         (now (gradients .entry)) (now (work .entry)) r (now (gradients .exit)) (now (work .exit)) ⌝ }
 {
-    let scale = 2.0 / (targets.len() as f32);
+    let scale = batch_gradients::scale_of(targets.len());
     let count = model.len();
     floats::clear(gradients, count);
-    batch_gradients::accumulate(
+    batch_gradients::take_rows(
         grid,
         table,
         widths,
@@ -32,6 +32,8 @@ fn gather(
         scale,
         &mut gradients[0..count],
         work,
+        true,
+        true,
     )
 }
 
@@ -55,7 +57,7 @@ pub fn step(
         return 20;
     }
     let count = model.len();
-    if update::apply(model, &gradients[0..count], rate) {
+    if update::move_or_leave(model, &gradients[0..count], rate) {
         return 0;
     }
     23

@@ -1,15 +1,14 @@
 -- The map row by row: where it stands before row r, a row more, a row that is refused, and the end. Assumes nothing.
 use mathlib.Core.Path.{_≡_, refl, sym, ap, _∙_}
 use mathlib.Core.Bool.{Bool, true, false, cond, _||_}
-use mathlib.Core.List.{List, _++_, append-nil}
+use mathlib.Core.List.{List, _++_}
 use Prim.Native.Nat.{ℕ, _+_, _<_}
 use native.Mathlib.Nat.{le-of-eq}
 use native.Mathlib.Numerals.{add-one}
 use lib.ListN.{length, drop, getD}
 use lib.Seq.{ext-getD}
 use lib.Ieee.{Float}
-use Rattle.floats.specs.Sums.{tabulate}
-use Rattle.floats.proofs.Loops.{tab-length, tab-get, tab-whole}
+use Rattle.floats.proofs.Loops.{tab-length, tab-whole, table-get}
 use Rattle.spline.specs.declared.Grid.{Grid}
 use Rattle.layers.specs.Net.{Net, netOf}
 use Rattle.layers.specs.Widths.{inputWidth, parametersIn}
@@ -36,10 +35,6 @@ either true true = refl
 either true false = refl
 either false true = refl
 either false false = refl
-
--- the number at a place of a table
-table-get : {A : Type 0} (f : ℕ → A) (n k : ℕ) (x : A) → k < n → getD (tabulate f n) k x ≡ f k
-table-get {A} f n k x h = ap (λ (l : List A). getD l k x) (sym (append-nil (tabulate f n))) ∙ tab-get f n k h _ x
 
 -- all k bytes of a map of n were cleared
 cleared : (n k : ℕ) (d ms : List ℕ) → k ≡ length d → length d ≡ n → ms ≡ blank k ++ drop k d → ms ≡ blank n

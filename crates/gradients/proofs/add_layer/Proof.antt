@@ -11,11 +11,11 @@ use Rattle.gradients.proofs.add_layer.Statement.{statement}
 use Rattle.gradients.proofs.add_layer.Tie as tie
 
 abbrev Inv-loop : tie.InvT-loop
-Inv-loop grid params inputs ups gradients₀ row o₀ o-end gradients o =
+Inv-loop grid table params inputs ups gradients₀ row o₀ o-end gradients o =
     Parts (nodeSlots (basisOf grid) params inputs ups) (length ups) gradients₀ gradients o
 
 abbrev μ-loop : tie.MeasureT-loop
-μ-loop grid params inputs ups gradients₀ row o₀ o-end gradients o = length ups - o
+μ-loop grid table params inputs ups gradients₀ row o₀ o-end gradients o = length ups - o
 
 -- ---- from place to place
 abbrev entry : tie.After-struct-known Inv-loop μ-loop → tie.Start Inv-loop μ-loop
@@ -82,7 +82,9 @@ part-add-node-end-2 : tie.Need-part-add-node-end-2 Inv-loop μ-loop
 part-add-node-end-2 c = omega (arith, known (c .before .before))
 
 add-node-requires : tie.Need-add-node-requires Inv-loop μ-loop
-add-node-requires c κs = lent (start (asked c .before) .pre .1 .grid) (known (asked c))
+add-node-requires c κs =
+    let pre = start (asked c .before) .pre in
+    (lent (pre .1 .grid) (known (asked c)), pre .2)
 
 add-o : tie.Need-add-o Inv-loop μ-loop
 add-o c = omega arith

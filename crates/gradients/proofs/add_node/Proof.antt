@@ -11,11 +11,11 @@ use Rattle.gradients.proofs.add_node.Statement.{statement}
 use Rattle.gradients.proofs.add_node.Tie as tie
 
 abbrev Inv-loop : tie.InvT-loop
-Inv-loop grid params inputs up gradients₀ stride i₀ i-end gradients i =
+Inv-loop grid table params inputs up gradients₀ stride i₀ i-end gradients i =
     Parts (edgeSlots (basisOf grid) params inputs up) (length inputs) gradients₀ gradients i
 
 abbrev μ-loop : tie.MeasureT-loop
-μ-loop grid params inputs up gradients₀ stride i₀ i-end gradients i = length inputs - i
+μ-loop grid table params inputs up gradients₀ stride i₀ i-end gradients i = length inputs - i
 
 -- ---- from place to place
 abbrev start : tie.At-loop Inv-loop μ-loop → tie.Start Inv-loop μ-loop
@@ -32,7 +32,7 @@ known : (c : tie.In-loop Inv-loop μ-loop)
     → let a = start (c .before) .args in
     let loop = c .before .loop in
     Turn (a .grid .intervals + 5) (loop .i) (a .params .now) (a .gradients .now) (loop .gradients)
-known c = turn-at _ _ _ _ (c .loop-test .taken) (start (c .before) .pre) (c .before .loop .inv .size)
+known c = turn-at _ _ _ _ (c .loop-test .taken) (start (c .before) .pre .0) (c .before .loop .inv .size)
 
 -- ---- the needs
 add-stride : tie.Need-add-stride Inv-loop μ-loop
@@ -75,7 +75,9 @@ part-add-edge-end-2 : tie.Need-part-add-edge-end-2 Inv-loop μ-loop
 part-add-edge-end-2 c = omega (arith, known (c .before .before))
 
 add-edge-requires : tie.Need-add-edge-requires Inv-loop μ-loop
-add-edge-requires c κs = lent (start (asked c .before) .pre .grid) (known (asked c))
+add-edge-requires c κs =
+    let pre = start (asked c .before) .pre in
+    (lent (pre .0 .grid) (known (asked c)), pre .1)
 
 add-i : tie.Need-add-i Inv-loop μ-loop
 add-i c = omega arith

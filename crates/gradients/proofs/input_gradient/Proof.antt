@@ -14,12 +14,12 @@ use Rattle.gradients.proofs.input_gradient.Statement.{statement}
 use Rattle.gradients.proofs.input_gradient.Tie as tie
 
 abbrev Inv-loop : tie.InvT-loop
-Inv-loop grid params inputs ups i stride w x rise gradient₀ o₀ o-end gradient o =
+Inv-loop grid table params inputs ups i stride w x rise gradient₀ o₀ o-end gradient o =
     (o ≤ length ups) × (gradient ≡ sumTo (λ (k : ℕ).
     backOf (basisOf grid) (drop ((k * length inputs + i) * (grid .intervals + 5)) params) (at inputs i) (at ups k)) o)
 
 abbrev μ-loop : tie.MeasureT-loop
-μ-loop grid params inputs ups i stride w x rise gradient₀ o₀ o-end gradient o = length ups - o
+μ-loop grid table params inputs ups i stride w x rise gradient₀ o₀ o-end gradient o = length ups - o
 
 -- ---- from place to place
 abbrev read : tie.At-loop Inv-loop μ-loop → tie.After-struct-known Inv-loop μ-loop
@@ -48,8 +48,8 @@ mul-x c = search needs
 shared-slice-read-x : tie.Need-shared-slice-read-x Inv-loop μ-loop
 shared-slice-read-x c = omega arith
 
-silu-derivative-requires : tie.Need-silu-derivative-requires Inv-loop μ-loop
-silu-derivative-requires c κs = search needs
+silu-derivative-by-requires : tie.Need-silu-derivative-by-requires Inv-loop μ-loop
+silu-derivative-by-requires c κs = search needs
 
 loop-holds : tie.Need-loop-holds Inv-loop μ-loop
 loop-holds c = (omega arith, sum-none _ _)
@@ -96,7 +96,7 @@ loop-again : tie.Need-loop-again Inv-loop μ-loop
 unfolding backOf backWith
 loop-again c =
     let head = c .before .before .before .before in
-    let rise = head .before .silu-derivative .ensures in
+    let rise = head .before .silu-derivative-by .ensures in
     (omega arith, sum-more _ _ _ _ _ (head .loop .inv .1) (c .back .ensures ∙ rw (rest, rise)))
 
 returns : tie.Need-returns Inv-loop μ-loop
@@ -111,7 +111,7 @@ input-gradient-spec =
     add-stride
     mul-x
     shared-slice-read-x
-    silu-derivative-requires
+    silu-derivative-by-requires
     loop-holds
     mul-edge
     add-edge

@@ -1,6 +1,5 @@
 -- `training_step::gather` meets its contract: cleared in front, then added to. Assumes nothing.
 use native.Mathlib.Omega.{arith}
-use Rattle.floats.proofs.Casts.{exact}
 use Rattle.batch_gradients.proofs.Checked.{full-rows}
 use Rattle.training_step.proofs.Stepping.{lent-front, lent-clean, gather-done}
 use borrow.Author.Needs.{needs}
@@ -11,30 +10,30 @@ use Rattle.training_step.proofs.gather.Tie as tie
 abbrev lent : tie.After-shared-slice-known4 → tie.Start
 lent c = c .before .before .before .before
 
-abbrev begun : tie.After-row-known → tie.Start
-begun c = lent (c .before .before .before)
+abbrev begun : tie.After-slice-known2 → tie.Start
+begun c = lent (c .before .before)
 
 abbrev start : tie.After-clear → tie.Start
-start c = begun (c .before .before)
+start c = begun (c .before .before .before)
 
 -- ---- the needs
-int-to-float-scale : tie.Need-int-to-float-scale
-int-to-float-scale c = exact _ (begun c .pre .0 .batch .few)
+scale-of-requires : tie.Need-scale-of-requires
+scale-of-requires c κs = begun c .pre .0 .batch .few
 
 clear-requires : tie.Need-clear-requires
 clear-requires c κs = search needs
 
-sub-accumulate : tie.Need-sub-accumulate
-sub-accumulate c = search needs
+sub-take-rows : tie.Need-sub-take-rows
+sub-take-rows c = search needs
 
-part-accumulate-start : tie.Need-part-accumulate-start
-part-accumulate-start c = search needs
+part-take-rows-start : tie.Need-part-take-rows-start
+part-take-rows-start c = search needs
 
-part-accumulate-end : tie.Need-part-accumulate-end
-part-accumulate-end c = search needs
+part-take-rows-end : tie.Need-part-take-rows-end
+part-take-rows-end c = search needs
 
-accumulate-requires : tie.Need-accumulate-requires
-accumulate-requires c κs =
+take-rows-requires : tie.Need-take-rows-requires
+take-rows-requires c κs =
     let at-clear = c .before .before .before .before in
     let p = start at-clear .pre .0 in (
       p .room .fits,
@@ -42,7 +41,7 @@ accumulate-requires c κs =
       lent-front _ _ (omega (arith, p .room .gradients, at-clear .clear .kept .0)),
       start at-clear .pre .1,
       p .finite,
-      lent-clean _ _ _ (at-clear .clear .ensures),
+      λ _. lent-clean _ _ _ (at-clear .clear .ensures),
     )
 
 same-length : tie.Need-same-length
@@ -53,21 +52,21 @@ same-length-2 c = search needs
 
 returns : tie.Need-returns
 returns c =
-    let at-accumulate = c .before .before .before .before in
-    let at-clear = at-accumulate .before .before .before .before .before in
-    gather-done _ _ _ _ _ _ _ _ _ _ _ (start at-clear .pre .0 .batch) (at-clear .clear .ensures)
-    (at-accumulate .accumulate .kept .1 .1 .1 .1 .1 .1 .1 .0) (at-accumulate .accumulate .ensures)
+    let at-rows = c .before .before .before .before in
+    let at-clear = at-rows .before .before .before .before .before in
+    gather-done _ _ _ _ _ _ _ _ _ _ _ _ (at-clear .before .before .scale-of .ensures) (start at-clear .pre .0 .batch) (at-clear .clear .ensures)
+    (at-rows .take-rows .kept .1 .1 .1 .1 .1 .1 .1 .0) (at-rows .take-rows .ensures)
 
 pub gather-spec : {M : Type 1} → statement M
 gather-spec =
     tie.close
     (tie.spec
-    int-to-float-scale
+    scale-of-requires
     clear-requires
-    sub-accumulate
-    part-accumulate-start
-    part-accumulate-end
-    accumulate-requires
+    sub-take-rows
+    part-take-rows-start
+    part-take-rows-end
+    take-rows-requires
     same-length
     same-length-2
     returns)

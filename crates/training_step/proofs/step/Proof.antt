@@ -22,17 +22,17 @@ returns c =
     let at-gather = c .before .before .before .before .before in
     step-stopped _ _ _ _ _ _ _ _ _ _ _ (at-gather .gather .ensures) (not-true _ (c .if1 .taken))
 
-sub-apply : tie.Need-sub-apply
-sub-apply c = search needs
+sub-move-or-leave : tie.Need-sub-move-or-leave
+sub-move-or-leave c = search needs
 
-part-apply-start : tie.Need-part-apply-start
-part-apply-start c = search needs
+part-move-or-leave-start : tie.Need-part-move-or-leave-start
+part-move-or-leave-start c = search needs
 
-part-apply-end : tie.Need-part-apply-end
-part-apply-end c = search needs
+part-move-or-leave-end : tie.Need-part-move-or-leave-end
+part-move-or-leave-end c = search needs
 
-apply-requires : tie.Need-apply-requires
-apply-requires c κs = search needs
+move-or-leave-requires : tie.Need-move-or-leave-requires
+move-or-leave-requires c κs = search needs
 
 same-length-4 : tie.Need-same-length-4
 same-length-4 c = search needs
@@ -45,10 +45,10 @@ same-length-6 c = search needs
 
 returns-2 : tie.Need-returns-2
 returns-2 c =
-    let at-apply = c .before .before .before in
-    let at-if1 = at-apply .before .before .before .before in
+    let at-move = c .before .before .before in
+    let at-if1 = at-move .before .before .before .before in
     let at-gather = at-if1 .before .before .before .before .before in
-    step-done _ _ _ _ _ _ _ _ _ _ _ _ _ (at-gather .gather .ensures) (not-false _ (at-if1 .if1 .left)) (at-apply .apply .ensures)
+    step-done _ _ _ _ _ _ _ _ _ _ _ _ _ (at-gather .gather .ensures) (not-false _ (at-if1 .if1 .left)) (at-move .move-or-leave .ensures)
     (c .if2 .taken)
 
 same-length-7 : tie.Need-same-length-7
@@ -62,10 +62,10 @@ same-length-9 c = search needs
 
 returns-3 : tie.Need-returns-3
 returns-3 c =
-    let at-apply = c .before .before .before in
-    let at-if1 = at-apply .before .before .before .before in
+    let at-move = c .before .before .before in
+    let at-if1 = at-move .before .before .before .before in
     let at-gather = at-if1 .before .before .before .before .before in
-    step-undone _ _ _ _ _ _ _ _ _ _ _ _ _ (at-gather .gather .ensures) (not-false _ (at-if1 .if1 .left)) (at-apply .apply .ensures)
+    step-undone _ _ _ _ _ _ _ _ _ _ _ _ _ (at-gather .gather .ensures) (not-false _ (at-if1 .if1 .left)) (at-move .move-or-leave .ensures)
     (c .if2 .left)
 
 pub step-spec : {M : Type 1} → statement M
@@ -77,10 +77,10 @@ step-spec =
     same-length-2
     same-length-3
     returns
-    sub-apply
-    part-apply-start
-    part-apply-end
-    apply-requires
+    sub-move-or-leave
+    part-move-or-leave-start
+    part-move-or-leave-end
+    move-or-leave-requires
     same-length-4
     same-length-5
     same-length-6

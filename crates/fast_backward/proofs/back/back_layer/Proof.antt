@@ -7,7 +7,7 @@ back-four-requires : tie.Need-back-four-requires
 back-four-requires c κs = let p = c .before .before .before .before .pre in (p .0, p .1, p .2, c .before .if1 .taken)
 
 back-plain-requires : tie.Need-back-plain-requires
-back-plain-requires c κs = let p = c .before .before .before .before .pre in (p .0, p .2)
+back-plain-requires c κs = let p = c .before .before .before .before .pre in (p .0, p .1, p .2)
 
 same-length : tie.Need-same-length
 same-length c = search needs

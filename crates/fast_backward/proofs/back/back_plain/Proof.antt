@@ -9,11 +9,11 @@ use Rattle.fast_backward.proofs.back.back_plain.Statement.{statement}
 use Rattle.fast_backward.proofs.back.back_plain.Tie as tie
 
 abbrev Inv-loop : tie.InvT-loop
-Inv-loop mesh params work₀ from w to n end ups ups-end i₀ work i =
+Inv-loop mesh table params work₀ from w to n end ups ups-end i₀ work i =
     Backed (basisOf (mesh .grid)) params from w to n work₀ work i
 
 abbrev μ-loop : tie.MeasureT-loop
-μ-loop mesh params work₀ from w to n end ups ups-end i₀ work i = w - i
+μ-loop mesh table params work₀ from w to n end ups ups-end i₀ work i = w - i
 
 -- ---- from place to place
 abbrev entry : tie.After-slice-known Inv-loop μ-loop → tie.Start Inv-loop μ-loop
@@ -30,18 +30,18 @@ known : (c : tie.In-loop Inv-loop μ-loop)
     → let a = start (c .before) .args in
     (a .from + a .w ≤ a .to) × (c .before .loop .i < a .w) × (a .to + a .w + a .n ≤ length (c .before .loop .work))
 known c =
-    let p = start (c .before) .pre .1 in
+    let p = start (c .before) .pre .2 in
     (p .before, c .loop-test .taken, omega (arith, p .room, c .before .loop .inv .size))
 
 -- ---- the needs
 add-end : tie.Need-add-end Inv-loop μ-loop
-add-end c = omega (arith, entry c .pre .1)
+add-end c = omega (arith, entry c .pre .2)
 
 add-ups : tie.Need-add-ups Inv-loop μ-loop
-add-ups c = omega (arith, entry c .pre .1)
+add-ups c = omega (arith, entry c .pre .2)
 
 add-ups-end : tie.Need-add-ups-end Inv-loop μ-loop
-add-ups-end c = omega (arith, entry c .pre .1)
+add-ups-end c = omega (arith, entry c .pre .2)
 
 loop-holds : tie.Need-loop-holds Inv-loop μ-loop
 loop-holds c = backed-none
@@ -80,7 +80,7 @@ input-gradient-requires c κs =
     let a = s .args in
     let xs = piece-length (t .before .loop .work) (a .from) (a .w) (omega (arith, known t)) in
     let us = piece-length (t .before .loop .work) (a .to + a .w) (a .n) (omega (arith, known t)) in
-    (s .pre .0 .intervals, rw xs (t .loop-test .taken), rw (xs, us) (s .pre .1 .layer .there))
+    (s .pre .0 .intervals, rw xs (t .loop-test .taken), rw (xs, us) (s .pre .2 .layer .there), s .pre .1)
 
 mul-work : tie.Need-mul-work Inv-loop μ-loop
 mul-work c = omega (arith, known (turn (c .before)))
@@ -98,7 +98,7 @@ loop-again : tie.Need-loop-again Inv-loop μ-loop
 loop-again c =
     let t = turn (c .before) in
     let s = t .before .loop .inv in
-    let p = start (t .before) .pre .1 in
+    let p = start (t .before) .pre .2 in
     backed-more _ s (t .loop-test .taken) (p .room)
     (turn-all s (t .loop-test .taken) (p .before) (p .room) _ (c .input-gradient .ensures))
 
@@ -107,7 +107,7 @@ same-length c = c .before .loop .inv .size
 
 returns : tie.Need-returns Inv-loop μ-loop
 returns c =
-    let p = start (c .before) .pre .1 in
+    let p = start (c .before) .pre .2 in
     backed-all (c .before .loop .inv) (omega arith) (p .before) (p .room)
 
 pub back-plain-spec : {M : Type 1} → statement M

@@ -1,5 +1,4 @@
 -- `row_gradients::add_layers` meets its contract: at each layer the parts of those before are added. Assumes nothing.
-use borrow.Author.Needs.{needs}
 use Prim.Native.Nat.{_+_, _-_}
 use native.Mathlib.Omega.{arith}
 use Rattle.row_gradients.proofs.Spans.{last-nodes, mesh-is}
@@ -9,11 +8,11 @@ use Rattle.row_gradients.proofs.adding.add_layers.Statement.{statement}
 use Rattle.row_gradients.proofs.adding.add_layers.Tie as tie
 
 abbrev Inv-loop : tie.InvT-loop
-Inv-loop grid table widths model work end gradients₀ half layer₀ gradients layer =
+Inv-loop grid table widths model work end gradients₀ clean half layer₀ gradients layer =
     Summed grid model widths work gradients₀ (layer .index) layer gradients
 
 abbrev μ-loop : tie.MeasureT-loop
-μ-loop grid table widths model work end gradients₀ half layer₀ gradients layer = end .index - layer .index
+μ-loop grid table widths model work end gradients₀ clean half layer₀ gradients layer = end .index - layer .index
 
 -- ---- from place to place: only these lines know how many places lie between
 abbrev entry : tie.After-struct-known Inv-loop μ-loop → tie.Start Inv-loop μ-loop
@@ -143,7 +142,7 @@ add-layer-requires c κs =
     let pre = start (head (asked c .before)) .pre in
     let w = inputs-length t in
     let n = ups-length t in
-    (mesh-is (reach t .lie), pre .3, rw (w, n) (cells t (pre .4)), λ known. rw (w, n) (clean-in t (pre .5)))
+    (mesh-is (reach t .lie), pre .3, rw (w, n) (cells t (pre .4)), λ known. rw (w, n) (clean-in t (pre .5 known)))
 
 loop-less : tie.Need-loop-less Inv-loop μ-loop
 loop-less c = let n = run (back c .before) in omega (arith, n .next .ensures .index, n .before .if1 .taken)

@@ -75,7 +75,7 @@ train-sound-requires c κs = roomy _ _ _ _ _ (known (c .before .before .before .
 mul-twice-nodes : tie.Need-mul-twice-nodes
 mul-twice-nodes c =
     let k = allowed (trained c) in
-    omega (arith, known k .size .fewNodes, nodes k)
+    omega (arith, known k .nodes .size .fewNodes, nodes k)
 
 clear-requires : tie.Need-clear-requires
 clear-requires c κs =
@@ -87,7 +87,7 @@ clear-requires-2 : tie.Need-clear-requires-2
 clear-requires-2 c κs =
     let t = cleared (c .before .before .before) in
     let k = allowed t in
-    omega (arith, known k .work, nodes k, t .train-sound .kept .1 .1 .1 .1 .1 .1 .1 .1 .0)
+    omega (arith, known k .nodes .work, nodes k, t .train-sound .kept .1 .1 .1 .1 .1 .1 .1 .1 .0)
 
 returns : tie.Need-returns
 returns c =

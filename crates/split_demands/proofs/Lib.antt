@@ -1,0 +1,11 @@
+pub mod Rows
+pub mod Gathering
+pub mod Taken
+pub mod Stepping
+pub mod Parts
+pub mod Joined
+pub mod Adding
+pub mod Moving
+pub mod Alike
+pub mod Start
+pub mod Shown

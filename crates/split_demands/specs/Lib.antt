@@ -1,0 +1,4 @@
+pub mod Chains
+pub mod Joined
+pub mod Alike
+pub mod Start

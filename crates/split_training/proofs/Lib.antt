@@ -1,0 +1,4 @@
+pub mod Answers
+pub mod Adding
+pub mod Moving
+pub mod Determined

@@ -1,0 +1,3 @@
+pub mod Accumulating
+pub mod Applying
+pub mod Stages

@@ -12,7 +12,7 @@ folders = PREFIX="$(PREFIX)" LIBDIR="$(LIBDIR)" INCLUDEDIR="$(INCLUDEDIR)" DOCDI
 
 help:
 	@echo 'make archive        prove the library and write target/lib/libestimator.a'
-	@echo 'make demo           build the example scheduler and run it'
+	@echo 'make demo           build the examples, a scheduler and builders, and run them'
 	@echo 'make install        archive, headers, pkg-config file, CMake package, licences'
 	@echo '                      PREFIX=/usr/local LIBDIR=PREFIX/lib INCLUDEDIR=PREFIX/include'
 	@echo '                      DOCDIR=PREFIX/share/doc/estimator DESTDIR='
@@ -39,6 +39,8 @@ demo: archive
 	target/demo/scheduler examples/scheduler/files.csv target/demo/model.kan
 	@echo "and every machine reaches these, as the published Rust did:"
 	@cd target/demo && sha256sum --check "$(CURDIR)/examples/scheduler/model.sha256"
+	$(CXX) -std=c++17 $(CXXFLAGS) -Iinclude examples/builders/main.cpp target/lib/libestimator.a -o target/demo/builders
+	target/demo/builders
 
 install: archive
 	@$(folders) packaging/install.sh install

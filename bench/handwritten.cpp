@@ -148,22 +148,37 @@ void forward(const Grid &grid, const float *layer, const float *in, size_t ins, 
     }
 }
 
+// What the gradients hold before a row is added. Where they began +0.0 and are tested in the end, zeros need not be
+// added, and one that is not finite may become any other such number. Where they may hold anything, adding +0.0 to -0.0
+// makes a difference, and an infinity is no NaN.
+enum class Start { zero, any };
+
+// What one edge adds to the gradients of its coefficients.
+template <Start start>
+void add_coefficients(const Grid &grid, float *gradient, const Reading &reading, float scaled) {
+    if (start == Start::any) {
+        for (size_t c = 0; c < grid.coefficients(); ++c)
+            gradient[c] += scaled * (c >= reading.begin && c < reading.end ? reading.values[c - reading.begin] : 0.0f);
+    } else if (finite(scaled)) {
+        for (size_t c = reading.begin; c < reading.end; ++c)
+            gradient[c] += scaled * reading.values[c - reading.begin];
+    } else { // not finite times zero is no zero
+        for (size_t c = 0; c < grid.coefficients(); ++c)
+            gradient[c] = scaled - scaled;
+    }
+}
+
 // What one edge adds: to its own gradients, and (answered) to that of the node it reads.
+template <Start start>
 float add_edge(const Grid &grid, const float *edge, float *gradient, const Reading &reading, float upstream) {
     gradient[0] += upstream * reading.silu;
     gradient[1] += upstream * dot(edge + 2, reading, reading.values);
-    const float scaled = upstream * edge[1];
-    if (finite(scaled)) {
-        for (size_t c = reading.begin; c < reading.end; ++c)
-            gradient[2 + c] += scaled * reading.values[c - reading.begin];
-    } else { // not finite times zero is no zero
-        for (size_t c = 0; c < grid.coefficients(); ++c)
-            gradient[2 + c] = scaled - scaled;
-    }
+    add_coefficients<start>(grid, gradient + 2, reading, upstream * edge[1]);
     return upstream * (edge[0] * reading.silu_slope + edge[1] * dot(edge + 2, reading, reading.slopes));
 }
 
 // Adds one row's gradients of a layer, and writes those of the nodes before it.
+template <Start start>
 void backward(const Grid &grid, const float *layer, float *gradients, const float *in, float *in_gradients, size_t ins,
               const float *out_gradients, size_t outs) {
     const size_t per_edge = grid.intervals + 5;
@@ -172,7 +187,7 @@ void backward(const Grid &grid, const float *layer, float *gradients, const floa
         float sum = 0.0f;
         for (size_t o = 0; o < outs; ++o) {
             const size_t at = (o * ins + i) * per_edge;
-            sum += add_edge(grid, layer + at, gradients + at, reading, out_gradients[o]);
+            sum += add_edge<start>(grid, layer + at, gradients + at, reading, out_gradients[o]);
         }
         in_gradients[i] = sum;
     }
@@ -210,6 +225,7 @@ bool run_row(const Grid &grid, const Shape &shape, const float *model, const flo
 }
 
 // Adds one row's gradients, from the last layer back to the first.
+template <Start start>
 void add_row(const Grid &grid, const Shape &shape, const float *model, const float *target, float scale,
              float *gradients, const float *nodes, float *node_gradients) {
     size_t node = shape.nodes - shape.outs(), at = shape.parameters;
@@ -219,8 +235,8 @@ void add_row(const Grid &grid, const Shape &shape, const float *model, const flo
         const float *upstream = node_gradients + node;
         node -= shape.widths[l];
         at -= shape.layer_parameters(l);
-        backward(grid, model + at, gradients + at, nodes + node, node_gradients + node, shape.widths[l], upstream,
-                 shape.widths[l + 1]);
+        backward<start>(grid, model + at, gradients + at, nodes + node, node_gradients + node, shape.widths[l],
+                        upstream, shape.widths[l + 1]);
     }
 }
 
@@ -275,11 +291,48 @@ uint32_t hand_train_step(const size_t *widths, size_t widths_len, size_t interva
     for (size_t row = 0; row < rows; ++row) {
         if (!run_row(grid, shape, model, inputs + row * shape.ins(), work))
             return 20;
-        add_row(grid, shape, model, targets + row * shape.outs(), scale, gradients, work, work + shape.nodes);
+        add_row<Start::zero>(grid, shape, model, targets + row * shape.outs(), scale, gradients, work,
+                             work + shape.nodes);
     }
     if (!update(model, gradients, shape.parameters, rate))
         return 23;
     std::fill(gradients, gradients + shape.parameters, 0.0f);
     std::fill(work, work + 2 * shape.nodes, 0.0f);
     return 0;
+}
+
+uint32_t hand_accumulate(const size_t *widths, size_t widths_len, size_t intervals, float lo, float hi,
+                         const float *model, const float *inputs, const float *targets, size_t rows, size_t total,
+                         float *gradients, float *work) {
+    const Grid grid(intervals, lo, hi);
+    const Shape shape(widths, widths_len, intervals);
+    if (!all_finite(model, shape.parameters))
+        return 11;
+    if (!all_finite(inputs, rows * shape.ins()))
+        return 15;
+    if (!all_finite(targets, rows * shape.outs()))
+        return 17;
+    if (total == 0 || total > 16777216)
+        return 28;
+    for (size_t row = 0; row < rows; ++row)
+        if (!run_row(grid, shape, model, inputs + row * shape.ins(), work))
+            return 20;
+    const float scale = 2.0f / static_cast<float>(total);
+    for (size_t row = 0; row < rows; ++row) {
+        run_row(grid, shape, model, inputs + row * shape.ins(), work);
+        add_row<Start::any>(grid, shape, model, targets + row * shape.outs(), scale, gradients, work,
+                            work + shape.nodes);
+    }
+    std::fill(work, work + 2 * shape.nodes, 0.0f);
+    return 0;
+}
+
+uint32_t hand_apply(const size_t *widths, size_t widths_len, size_t intervals, float *model, const float *gradients,
+                    float rate) {
+    const Shape shape(widths, widths_len, intervals);
+    if (!all_finite(model, shape.parameters))
+        return 11;
+    if (!finite(rate) || rate <= 0.0f)
+        return 19;
+    return update(model, gradients, shape.parameters, rate) ? 0 : 23;
 }

@@ -9,7 +9,8 @@ program=target/oracle/release/bench
 [ -x $program ] || { echo "no $program: bench/run.sh makes it" >&2; exit 3; }
 log=target/bench/callgrind.txt
 
-# counted INTERVALS TRAINING FUNCTION..: for each row, the instructions of each function and of what it calls
+# counted INTERVALS TRAINING FUNCTION..: for each row, the instructions of each function and of what it calls. TRAINING: 0 for
+# predictions, 1 for training steps, 2 for the library's training step and the two calls that make the same step
 counted() {
     local out=target/bench/callgrind.out
     rm -f $out
@@ -30,4 +31,11 @@ done
 [[ " $* " != *" --training 0 "* ]] || exit 0
 for g in 5 16 64 256; do
     echo "| train_step | $g |$(counted $g 1 Kan::train_step :kan_train_step :hand_train_step)"
+done
+
+printf '\nInstructions of the library for each row, [8, 16, 1]\n\n'
+echo "| g | train_step | accumulate | apply |"
+echo "|---|---|---|---|"
+for g in 5 16 64 256; do
+    echo "| $g |$(counted $g 2 :kan_train_step :kan_accumulate :kan_apply)"
 done

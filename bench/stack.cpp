@@ -60,6 +60,17 @@ struct Network {
                          nodes.data(), nodes.size(), &done, &carried);
     }
 
+    uint32_t accumulate() {
+        return kan_accumulate(widths.data(), widths.size(), g, lo, hi, model.data(), model.size(), inputs.data(),
+                              inputs.size(), targets.data(), targets.size(), targets.size(), gradients.data(),
+                              gradients.size(), nodes.data(), nodes.size(), &carried);
+    }
+
+    uint32_t apply() {
+        return kan_apply(widths.data(), widths.size(), g, lo, hi, model.data(), model.size(), gradients.data(),
+                         gradients.size(), 0.01f, &carried);
+    }
+
     uint32_t visits() {
         return kan_visits(widths.data(), widths.size(), g, lo, hi, model.data(), model.size(), inputs.data(),
                           inputs.size(), first.data(), first.size(), second.data(), second.size(), map.data(),
@@ -93,6 +104,8 @@ constexpr Call calls[] = {
     {"predict", &Network::predict},
     {"loss", &Network::loss},
     {"train", &Network::train},
+    {"accumulate", &Network::accumulate},
+    {"apply", &Network::apply},
     {"visits", &Network::visits},
     {"image_write", &Network::image_write},
     {"image_read", &Network::image_read},
@@ -140,7 +153,7 @@ int main() {
     std::printf("\nPeak stack of a call in bytes\n\n| shape | g |");
     for (const Call &call : calls)
         std::printf(" %s |", call.name);
-    std::printf("\n|---|---|---|---|---|---|---|---|---|---|---|\n");
+    std::printf("\n|---|---|---|---|---|---|---|---|---|---|---|---|---|\n");
     for (Network network :
          {Network{{1, 1}, 5}, Network{{8, 16, 1}, 5}, Network{{8, 16, 1}, 256}, Network{{4, 8, 8, 1}, 64}}) {
         std::printf("| [");

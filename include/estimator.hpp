@@ -2,9 +2,10 @@
 //
 // Everything here is inline and only calls libestimator.a; what each call promises is in estimator.h. A refusal is a
 // value, never an exception, and -fno-exceptions is fine. The standard library may throw std::bad_alloc where memory is
-// allocated: in whatever makes or copies a Config, Model or Work, in image(), visits(), message(), read_file and
-// write_file, and in train() when a Work trains a model of this size for the first time. predict() and loss() are
-// noexcept and allocate nothing; later calls of train() allocate nothing either.
+// allocated: in whatever makes or copies a Config, Model, Work or Gradients, in image(), visits(), message(), read_file
+// and write_file, and in train() and accumulate() when a Work is used so with a model of this size for the first time.
+// predict(), loss() and apply() are noexcept and allocate nothing; later calls of train() and accumulate() allocate
+// nothing either.
 //
 //     using namespace estimator;
 //     Result<Model> model = Model::initialise({{3, 6, 1}, 8, 0.0f, 1.0f}, 42);
@@ -13,7 +14,8 @@
 //     Training training = model->train(inputs, targets, 1000, 0.1f, work);
 //     Outcome outcome = model->predict(inputs, outputs, work);
 //
-// A Model may be read by many threads at a time; each needs a Work of its own.
+// A Model may be read by many threads at a time; each needs a Work of its own. Builders that gather samples for a model
+// read it too: they accumulate() into Gradients, and who trains the model applies these when no builder reads it.
 #ifndef ESTIMATOR_HPP
 #define ESTIMATOR_HPP
 
@@ -67,6 +69,7 @@ enum class Reason : std::uint32_t {
     image_version = 25,
     image_degree = 26,
     image_malformed = 27,
+    stated_total = 28,
 };
 
 // A reason in words.
@@ -100,6 +103,7 @@ constexpr const char *words(Reason reason) noexcept {
         "image version not 1",
         "degree not 3",
         "image malformed",
+        "the stated total of target values is 0 or above 16,777,216",
     };
     const auto number = static_cast<std::size_t>(reason);
     return number < sizeof texts / sizeof *texts ? texts[number] : "a reason that this header does not know";
@@ -115,7 +119,7 @@ struct [[nodiscard]] Outcome {
     Reason reason = Reason::accepted;
     std::size_t carried = 0;
     bool carries_row = false;
-    std::optional<BatchShape> batch; // where the reason is output_length
+    std::optional<BatchShape> batch; // where predict() is refused with output_length
 
     explicit operator bool() const noexcept { return reason == Reason::accepted; }
     std::uint32_t number() const noexcept { return static_cast<std::uint32_t>(reason); }
@@ -267,7 +271,28 @@ class Work {
     friend class Model;
 
     std::vector<float> first, second;    // W each: prediction, loss, visits
-    std::vector<float> gradients, nodes; // P and 2N: training, made when it is first asked for
+    std::vector<float> gradients, nodes; // P and 2N: training, made when it is first asked for; accumulating has the 2N
+};
+
+// What batches have added up to for each parameter of a model, all +0.0 at first: a value, to be copied and moved as
+// one. Builders may take turns with one of them, or each have its own. A model that has another number of parameters
+// refuses them with output_length.
+class Gradients {
+  public:
+    explicit Gradients(const Model &model);
+
+    // All numbers, in the order of the parameters. Nothing that is written here is refused; see estimator.h.
+    Floats numbers() const noexcept { return sums; }
+    View<float> numbers() noexcept { return sums; }
+
+    // All +0.0 again, for the next step. Applying does not do that.
+    void clear() noexcept {
+        for (float &sum : sums)
+            sum = 0.0f;
+    }
+
+  private:
+    std::vector<float> sums;
 };
 
 // How training ended, and after how many steps. Refused at a later step, the model keeps the steps done.
@@ -356,7 +381,7 @@ class Model {
     }
 
     // The mean squared error over all rows and outputs. A batch that is not whole rows is refused with input_width or
-    // target_width, even where the library finds row_counts_differ first; so it is in train().
+    // target_width, even where the library finds row_counts_differ first; so it is in train() and accumulate().
     Result<float> loss(Floats inputs, Floats targets, Work &work) const noexcept {
         const ExactFloats exact;
         float error = 0.0f;
@@ -384,6 +409,37 @@ class Model {
         if (training.outcome.reason == Reason::row_counts_differ)
             training.outcome.reason = short_row_or(training.outcome.reason, inputs.size(), targets.size());
         return training;
+    }
+
+    // Adds the batch's gradients to those gathered before. `total` is the number of target values of all batches that
+    // are gathered for one step, this one too; it is the same in all their calls. Refused, the gradients are as before.
+    //
+    // One step on the joined batch, bit by bit, is: batches accumulated in order into the same Gradients, which began
+    // all +0.0, on a model that nobody changes meanwhile, and applied once.
+    Outcome accumulate(Floats inputs, Floats targets, std::size_t total, Gradients &gradients, Work &work) const {
+        const ExactFloats exact;
+        work.nodes.resize(larger(work.nodes.size(), 2 * counts.nodes));
+        const View<float> sums = gradients.numbers();
+        Outcome outcome;
+        outcome.reason = Reason{kan_accumulate(shape.widths.data(), shape.widths.size(), shape.intervals, shape.lo,
+                                               shape.hi, numbers.data(), numbers.size(), inputs.data(), inputs.size(),
+                                               targets.data(), targets.size(), total, sums.data(), sums.size(),
+                                               work.nodes.data(), work.nodes.size(), &outcome.carried)};
+        if (outcome.reason == Reason::row_counts_differ)
+            outcome.reason = short_row_or(outcome.reason, inputs.size(), targets.size());
+        return outcome;
+    }
+
+    // Subtracts from each parameter this rate times its gradient. The gradients stay: clear() them for the next step.
+    // Refused, the model is as before.
+    Outcome apply(const Gradients &gradients, float rate) noexcept {
+        const ExactFloats exact;
+        const Floats sums = gradients.numbers();
+        Outcome outcome;
+        outcome.reason =
+            Reason{kan_apply(shape.widths.data(), shape.widths.size(), shape.intervals, shape.lo, shape.hi,
+                             numbers.data(), numbers.size(), sums.data(), sums.size(), rate, &outcome.carried)};
+        return outcome;
     }
 
     // One byte for each parameter: 1 where the batch can feel it, a coefficient by its basis value or slope, else 0.
@@ -437,6 +493,7 @@ class Model {
 };
 
 inline Work::Work(const Model &model) : first(model.sizes().widest), second(model.sizes().widest) {}
+inline Gradients::Gradients(const Model &model) : sums(model.sizes().parameters) {}
 
 // Bytes to and from a file, for convenience. These are no calls of the library, and their failures are no refusals.
 

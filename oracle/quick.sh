@@ -20,6 +20,7 @@ compare self-test
 compare leaves --every 4099 --basis 2000
 compare calls --rounds 5000
 compare training --rounds 2000
+compare chains --rounds 5000
 compare images --rounds 5000
 compare visits --rounds 5000
 compare unmarked --rounds 3000

@@ -1,9 +1,9 @@
 #!/usr/bin/env bash
 # Builds the oracle and runs one of its programs:
 #   oracle/run.sh self-test
-#   oracle/run.sh lists [images | visits]
+#   oracle/run.sh lists [images | visits | split]
 #   oracle/run.sh leaves [--every N] [--offset M] [--basis N]
-#   oracle/run.sh calls | training | images | visits | unmarked [--rounds N] [--seed S] [--large] [--round R]
+#   oracle/run.sh calls | training | chains | images | visits | unmarked [--rounds N] [--seed S] [--large] [--round R]
 #   oracle/run.sh bench .. (bench/run.sh makes what it needs)
 # KAN_RUST: folder of the ported Rust; ESTIMATOR_LIB: folder of the proved code's archives.
 # Status 3: something that is needed is not here and can't be installed.
@@ -62,13 +62,13 @@ need_calls() {
 case $program in
     self-test | lists) ;;
     leaves) need_archive leaves ;;
-    # All four are linked with all calls on a network (src/bin/proved/calls.rs).
-    calls | training | visits | unmarked)
-        need_calls kan_check kan_initialise kan_predict kan_loss kan_train_step kan_train kan_visits
+    # All five are linked with all calls on a network (src/bin/proved/calls.rs).
+    calls | training | chains | visits | unmarked)
+        need_calls kan_check kan_initialise kan_predict kan_loss kan_train_step kan_train kan_visits kan_accumulate kan_apply
         ;;
     images) need_calls kan_image_read ;;
-    bench) need_calls kan_train ;;
-    *) stop "name a program: self-test, lists, leaves, calls, training, images, visits, unmarked or bench" 2 ;;
+    bench) need_calls kan_train kan_accumulate kan_apply ;;
+    *) stop "name a program: self-test, lists, leaves, calls, training, chains, images, visits, unmarked or bench" 2 ;;
 esac
 shift
 

@@ -53,6 +53,14 @@ std::uint32_t train() {
     return kan_train(widths, 3, intervals, domain.lo, domain.hi, model, parameters, inputs, rows * 3, targets, rows, 2,
                      0.01f, gradients, parameters, work, 2 * nodes, &done, &carried);
 }
+std::uint32_t accumulate() {
+    return kan_accumulate(widths, 3, intervals, domain.lo, domain.hi, model, parameters, inputs, rows * 3, targets,
+                          rows, rows, gradients, parameters, work, 2 * nodes, &carried);
+}
+std::uint32_t apply() {
+    return kan_apply(widths, 3, intervals, domain.lo, domain.hi, model, parameters, gradients, parameters, 0.01f,
+                     &carried);
+}
 std::uint32_t visits() {
     return kan_visits(widths, 3, intervals, domain.lo, domain.hi, model, parameters, inputs, rows * 3, first, widest,
                       second, widest, map, parameters, &carried);
@@ -64,11 +72,13 @@ std::uint32_t image_read() { return kan_image_read(image, image_size, &g, &lo, &
 std::uint32_t image_unpack() { return kan_image_unpack(image, image_size, unpacked, 3, model, parameters, &carried); }
 
 // Through the C++ header. The model and its buffers are made outside the fibre.
-const estimator::Model *cpp_model;
+estimator::Model *cpp_model;
 estimator::Work *cpp_work;
+estimator::Gradients *cpp_gradients;
 
 std::uint32_t cpp_predict() { return cpp_model->predict(inputs, outputs, *cpp_work).number(); }
 std::uint32_t cpp_loss() { return cpp_model->loss(inputs, targets, *cpp_work).outcome().number(); }
+std::uint32_t cpp_apply() { return cpp_model->apply(*cpp_gradients, 0.01f).number(); }
 
 struct Call {
     const char *name;
@@ -78,16 +88,22 @@ struct Call {
 constexpr Call c_calls[] = {
     {"kan_check", check, 528},
     {"kan_initialise", initialise, 528},
-    {"kan_predict", predict, 2144},
-    {"kan_loss", loss, 2144},
-    {"kan_train_step", train_step, 3968},
-    {"kan_train", train, 3968},
+    {"kan_predict", predict, 2112},
+    {"kan_loss", loss, 2112},
+    {"kan_train_step", train_step, 3088},
+    {"kan_train", train, 3088},
+    {"kan_accumulate", accumulate, 2816},
+    {"kan_apply", apply, 528},
     {"kan_visits", visits, 2336},
     {"kan_image_write", image_write, 528},
     {"kan_image_read", image_read, 528},
     {"kan_image_unpack", image_unpack, 528},
 };
-constexpr Call cpp_calls[] = {{"predict", cpp_predict, fibre_size}, {"loss", cpp_loss, fibre_size}};
+constexpr Call cpp_calls[] = {
+    {"predict", cpp_predict, fibre_size},
+    {"loss", cpp_loss, fibre_size},
+    {"apply", cpp_apply, fibre_size},
+};
 
 std::uint32_t (*call_on_fibre)();
 std::uint32_t refusal;
@@ -185,10 +201,12 @@ int main() {
     // Last, since a vector may call memset.
     for (const Domain &chosen : domains) {
         domain = chosen;
-        const auto cpp = estimator::Model::initialise({{3, 4, 1}, intervals, domain.lo, domain.hi}, 1).value();
+        auto cpp = estimator::Model::initialise({{3, 4, 1}, intervals, domain.lo, domain.hi}, 1).value();
         estimator::Work buffers(cpp);
+        estimator::Gradients sums(cpp);
         cpp_model = &cpp;
         cpp_work = &buffers;
+        cpp_gradients = &sums;
         all = all_fit("C++", cpp_calls, fibre) && all;
     }
     std::printf("  %s in %zu bytes\n", all ? "every call fits" : "NOT every call fits", fibre_size);

@@ -1,5 +1,5 @@
 #!/usr/bin/env bash
-# Installs into a fresh folder, moves it, and builds against it: the example by pkg-config, by CMake, and with the archive
+# Installs into a fresh folder, moves it, and builds against it: the examples by pkg-config, by CMake, and with the archive
 # inside a shared object, which must print the same and write the same image; every call on a fibre of 4 KiB; what must not
 # compile; versions; and uninstalling. All folders have a space in their names. `make test-install` runs it.
 set -euo pipefail
@@ -11,7 +11,7 @@ scripts/need.sh g++=g++ gcc=gcc nm=binutils cmake=cmake pkg-config=pkg-config
 work="$PWD/target/test install"
 rm -rf "$work"
 mkdir -p "$work"
-example=examples/scheduler
+examples=(scheduler builders)
 
 stop() {
     echo "test-install: $1" >&2
@@ -115,7 +115,10 @@ needed=$(nm -u "$prefix/lib/libestimator.a" 2>/dev/null | awk '$1 == "U" { print
 [ -z "$needed" ] || stop "the archive needs $needed"
 
 echo "pkg-config"
-by_pkg_config g++ -std=c++17 -O2 -Wall -Wextra -Werror $example/main.cpp -o "$work/by-pkg-config"
+mkdir "$work/by-pkg-config" "$work/by-cmake" "$work/by-shared-object"
+for example in "${examples[@]}"; do
+    by_pkg_config g++ -std=c++17 -O2 -Wall -Wextra -Werror "examples/$example/main.cpp" -o "$work/by-pkg-config/$example"
+done
 
 echo "the quick start of README.md, as it stands there"
 sed -n '/^```cpp$/,/^```$/ { /^```/ d; p }' README.md >"$work/quick-start.txt"
@@ -134,24 +137,34 @@ by_pkg_config g++ -std=c++17 -O2 -Wall -Wextra -Werror "$work/quick-start.cpp" -
 [ "$(grep -o 'if (!outcome) return' "$work/quick-start.txt" | wc -l)" = 1 ] || stop "the quick start does not test its last outcome"
 
 echo "CMake"
-cmake -S $example -B "$work/cmake" -DCMAKE_PREFIX_PATH="$prefix" -DCMAKE_BUILD_TYPE=Release >"$work/cmake.log"
-cmake --build "$work/cmake" >>"$work/cmake.log" || { cat "$work/cmake.log"; exit 1; }
-cp "$work/cmake/scheduler" "$work/by-cmake"
+for example in "${examples[@]}"; do
+    made="$work/cmake/$example"
+    cmake -S "examples/$example" -B "$made" -DCMAKE_PREFIX_PATH="$prefix" -DCMAKE_BUILD_TYPE=Release >"$work/cmake.log"
+    cmake --build "$made" >>"$work/cmake.log" || { cat "$work/cmake.log"; exit 1; }
+    cp "$made/$example" "$work/by-cmake/$example"
+done
 
 echo "shared object (-z text: refused if any code had to be patched when loaded)"
 g++ -shared -Wl,-z,text -Wl,-z,defs -Wl,-z,lazy -Wl,--whole-archive "$prefix/lib/libestimator.a" -Wl,--no-whole-archive \
     -o "$work/libestimator.so"
 ! nm -D --defined-only "$work/libestimator.so" | grep -v ' T kan_' || stop "the shared object exports more than the calls"
 shared=("$work/libestimator.so" -Wl,-rpath,"$work")
-g++ -std=c++17 -O2 -I"$prefix/include" $example/main.cpp "${shared[@]}" -o "$work/by-shared-object"
-ldd "$work/by-shared-object" | grep -F "$work/libestimator.so" >/dev/null || stop "the shared object is not used"
+for example in "${examples[@]}"; do
+    g++ -std=c++17 -O2 -I"$prefix/include" "examples/$example/main.cpp" "${shared[@]}" -o "$work/by-shared-object/$example"
+    ldd "$work/by-shared-object/$example" | grep -F "$work/libestimator.so" >/dev/null || stop "the shared object is not used"
+done
 
 for way in by-pkg-config by-cmake by-shared-object; do
     mkdir "$work/$way.run"
-    (cd "$work/$way.run" && "$work/$way" "$OLDPWD/$example/files.csv" model.kan >output.txt)
+    (
+        cd "$work/$way.run"
+        "$work/$way/scheduler" "$OLDPWD/examples/scheduler/files.csv" model.kan >output.txt
+        "$work/$way/builders" >builders.txt
+    )
     diff -r "$work/by-pkg-config.run" "$work/$way.run"
 done
 tail -n 2 "$work/by-pkg-config.run/output.txt"
+tail -n 3 "$work/by-pkg-config.run/builders.txt"
 
 for compiler in "${compilers[@]}"; do
     echo "a fibre of 4 KiB, functions bound as late as can be, bytes of stack ($compiler)"
@@ -179,4 +192,4 @@ left=$(cd "$stage" && find . -type f)
 [ ! -e "$stage/usr/share/doc/estimator" ] && [ ! -e "$stage/usr/lib/x86_64-linux-gnu/cmake/estimator" ] ||
     stop "uninstalling leaves folders of its own"
 
-echo "test-install: all three programs agree, every call fits a fibre of 4 KiB, version $version"
+echo "test-install: both examples agree in all three ways, every call fits a fibre of 4 KiB, version $version"

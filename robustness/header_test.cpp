@@ -108,9 +108,11 @@ void widths() {
                    "refused 10: output or map length wrong (2 x 3 inputs need 2 x 2 outputs)");
     expect_refused(model.predict({}, outputs, work), 10, 0,
                    "refused 10: output or map length wrong (0 x 3 inputs need 0 x 2 outputs)");
+    Gradients gradients(model);
     const auto refused = [&](std::size_t inputs, std::size_t targets, unsigned number, const char *message) {
         expect_refused(model.loss(Numbers(inputs), Numbers(targets), work).outcome(), number, 0, message);
         expect_refused(trained.train(Numbers(inputs), Numbers(targets), 1, 0.1f, work).outcome, number, 0, message);
+        expect_refused(model.accumulate(Numbers(inputs), Numbers(targets), 1, gradients, work), number, 0, message);
     };
     refused(4, 2, 14, "refused 14: input row of wrong width");
     refused(6, 1, 16, "refused 16: target row of wrong width");
@@ -151,6 +153,80 @@ void trainings() {
     const std::array<float, 7> before{0, 1, 0, 0, 0, 0, 0}, after{0, 1, 0, 1 / 6.0f, 4 / 6.0f, 1 / 6.0f, 0};
     expect(std::memcmp(model.parameters().data(), before.data(), sizeof before) == 0, "a copy is trained alone");
     expect(std::memcmp(copy.parameters().data(), after.data(), sizeof after) == 0, "the settled step");
+}
+
+using Bits = std::vector<std::uint32_t>;
+
+Bits bits(Floats numbers) {
+    Bits words(numbers.size());
+    if (!words.empty())
+        std::memcpy(words.data(), numbers.data(), sizeof(float) * words.size());
+    return words;
+}
+
+// The settled batches, one after the other and then applied.
+void gatherings() {
+    Model model = edge(0.0f);
+    Work work(model);
+    Gradients gradients(model);
+    expect(bits(gradients.numbers()) == Bits(7), "gradients are +0.0 at first");
+    expect(static_cast<bool>(model.accumulate(Numbers{0}, Numbers{1}, 2, gradients, work)), "the first batch");
+    expect(bits(gradients.numbers()) == Bits{0, 0, 0, 0xBE2AAAAB, 0xBF2AAAAB, 0xBE2AAAAB, 0}, "its gradients");
+    expect(static_cast<bool>(model.accumulate(Numbers{0.5f}, Numbers{-1}, 2, gradients, work)), "the second batch");
+    const Bits both{0x3E9F597F, 0, 0, 0xBE155556, 0xBE400002, 0x3EA00000, 0x3CAAAAAB};
+    expect(bits(gradients.numbers()) == both, "the gradients of both");
+    Model joined = model;
+    expect(joined.train(Numbers{0, 0.5f}, Numbers{1, -1}, 1, 0.5f, work).done == 1, "one step on both");
+    expect(static_cast<bool>(model.apply(gradients, 0.5f)), "applied");
+    expect(bits(model.parameters()) == bits(joined.parameters()), "applied once, they are one step on both");
+    expect(bits(gradients.numbers()) == both, "applying leaves the gradients");
+    Gradients copy = gradients;
+    gradients.clear();
+    expect(bits(gradients.numbers()) == Bits(7) && bits(copy.numbers()) == both, "cleared, but not the copy");
+    for (float &number : gradients.numbers())
+        number = -0.0f;
+    gradients.clear();
+    expect(bits(gradients.numbers()) == Bits(7), "-0.0 is cleared too");
+}
+
+void refused_gatherings() {
+    Model model = edge(0.0f);
+    Work work(model);
+    Gradients gradients(model), other(Model::initialise({{1, 1}, 3}, 0).value());
+    const auto refused = [&](const Model &by, Numbers inputs, Numbers targets, std::size_t total, unsigned number,
+                             const char *message) {
+        for (float &sum : gradients.numbers())
+            sum = 5.0f;
+        expect_refused(by.accumulate(inputs, targets, total, gradients, work), number, 0, message);
+        expect(bits(gradients.numbers()) == Bits(7, 0x40A00000), "refused, the gradients are as before");
+    };
+    const char *stated = "refused 28: the stated total of target values is 0 or above 16,777,216";
+    refused(model, {0}, {1}, 0, 28, stated);
+    refused(model, {0}, {1}, 16777217, 28, stated);
+    refused(model, {0}, {1, 2}, 3, 12, "refused 12: row counts differ");
+    refused(model, {}, {}, 1, 13, "refused 13: no rows");
+    refused(model, {NAN}, {1}, 1, 15, "refused 15: input not finite");
+    refused(model, {0}, {NAN}, 1, 17, "refused 17: target not finite");
+    refused(edge(1e38f), {0.5f, 100}, {0, 0}, 2, 20, "refused 20: a node value not finite");
+    expect_refused(model.accumulate(Numbers{0}, Numbers{1}, 1, other, work), 10, 0,
+                   "refused 10: output or map length wrong");
+    expect(static_cast<bool>(model.accumulate(Numbers{0, 0}, Numbers{1, 1}, 1, gradients, work)), "any total");
+}
+
+void refused_applications() {
+    Model model = edge(0.0f);
+    const Bits before = bits(model.parameters());
+    Gradients gradients(model), other(Model::initialise({{1, 1}, 3}, 0).value());
+    expect_refused(model.apply(other, 0.0f), 10, 0, "refused 10: output or map length wrong");
+    gradients.numbers().data()[6] = NAN;
+    expect_refused(model.apply(gradients, 0.0f), 19, 0, "refused 19: learning rate not finite or not above 0");
+    expect_refused(model.apply(gradients, 1.0f), 23, 0, "refused 23: an updated parameter not finite");
+    expect(bits(model.parameters()) == before, "refused, the model is as before");
+    model.parameters().data()[0] = infinite;
+    expect_refused(model.apply(gradients, 0.0f), 11, 0, "refused 11: a parameter not finite");
+    Work work(model);
+    expect_refused(model.accumulate(Numbers{0}, Numbers{1}, 1, gradients, work), 11, 0,
+                   "refused 11: a parameter not finite");
 }
 
 void maps() {
@@ -225,14 +301,19 @@ void allocation() {
     Work work(model);
     const Numbers inputs(30, 0.25f), targets(10, 0.5f);
     Numbers outputs(10);
+    Gradients gradients(model);
     expect(static_cast<bool>(model.train(inputs, targets, 1, 0.1f, work)), "the first step");
     const unsigned long before = allocations;
     const Outcome predicted = model.predict(inputs, outputs, work);
     const Result<float> loss = model.loss(inputs, targets, work);
     const Training training = model.train(inputs, targets, 1, 0.1f, work);
+    const Outcome gathered = model.accumulate(inputs, targets, 10, gradients, work);
+    const Outcome applied = model.apply(gradients, 0.1f);
+    gradients.clear();
     const unsigned long after = allocations;
-    expect(predicted && loss && training, "predict, loss and train");
-    expect(after == before, "predict, loss and train allocate nothing");
+    expect(predicted && loss && training && gathered && applied, "predict, loss, train, accumulate and apply");
+    expect(after == before, "predict, loss, train, accumulate and apply allocate nothing");
+    static_assert(noexcept(model.apply(gradients, 0.1f)) &&noexcept(gradients.clear()), "nor do they throw");
 }
 
 void threads() {
@@ -252,12 +333,32 @@ void threads() {
         expect(own == outputs[0] && own[0] != 0.0f, "threads that share a model agree");
 }
 
+// Builders that share a model, each with gradients of its own.
+void building_threads() {
+    const Model model = Model::initialise({{3, 4, 1}, 5}, 1).value();
+    const Numbers inputs(300, 0.25f), targets(100, 0.5f);
+    std::vector<Gradients> gathered(4, Gradients(model));
+    std::vector<std::thread> threads;
+    for (Gradients &own : gathered)
+        threads.emplace_back([&model, &inputs, &targets, &own] {
+            Work work(model);
+            for (int batch = 0; batch < 5; ++batch)
+                (void)model.accumulate(inputs, targets, 500, own, work);
+        });
+    for (std::thread &thread : threads)
+        thread.join();
+    for (const Gradients &own : gathered)
+        expect(bits(own.numbers()) == bits(gathered[0].numbers()) && own.numbers().data()[0] != 0.0f,
+               "builders that share a model gather the same");
+}
+
 // A thread that flushes subnormals to zero and rounds up gets the same bits, and keeps its settings.
 void float_settings() {
     const Config tiny{{1, 1}, 1, 0.0f, 1e-40f};
     Model model = Model::initialise({{3, 4, 1}, 5}, 1).value(), other = model;
     Work work(model);
     const Numbers inputs(30, 0.3f), targets(10, 0.7f);
+    Gradients sums(model), unusual_sums(model);
     expect(static_cast<bool>(model.train(inputs, targets, 5, 0.1f, work)), "training under usual settings");
     const unsigned usual = _mm_getcsr(), unusual = 0xdfc0; // flush, denormals are zero, round up
     std::size_t parameters = 0, carried = 0;
@@ -266,10 +367,14 @@ void float_settings() {
         kan_check(tiny.widths.data(), 2, tiny.intervals, tiny.lo, tiny.hi, &parameters, &carried);
     const bool guarded = static_cast<bool>(tiny.check());
     const Training training = other.train(inputs, targets, 5, 0.1f, work);
+    const Outcome gathered = other.accumulate(inputs, targets, 10, unusual_sums, work);
+    const Outcome applied = other.apply(unusual_sums, 0.1f);
     const unsigned after = _mm_getcsr();
     _mm_setcsr(usual);
     expect(bare == 4 && guarded, "a domain of subnormals: refused by the bare call, accepted by the header's");
-    expect(training && other.image().value() == model.image().value(),
+    expect(model.accumulate(inputs, targets, 10, sums, work) && model.apply(sums, 0.1f), "and in two calls");
+    expect(training && gathered && applied && other.image().value() == model.image().value() &&
+               bits(sums.numbers()) == bits(unusual_sums.numbers()),
            "training under other settings has the same bits");
     expect((after & ~0x3fu) == (unusual & ~0x3fu), "the thread's settings are back");
 }
@@ -280,9 +385,11 @@ std::vector<std::uint8_t> all_calls(Outcome &overflow) {
     Numbers outputs(10);
     Model model = Model::initialise({{3, 4, 1}, 5}, 1).value(), steep = edge(3e38f);
     Work work(model);
+    Gradients gradients(model);
     std::vector<std::uint8_t> bytes;
     const bool accepted = model.train(inputs, targets, 5, 0.1f, work) && model.predict(inputs, outputs, work) &&
-                          model.loss(inputs, targets, work) && model.visits(inputs, work);
+                          model.loss(inputs, targets, work) && model.visits(inputs, work) &&
+                          model.accumulate(inputs, targets, 10, gradients, work) && model.apply(gradients, 0.1f);
     overflow = steep.predict(Numbers{100}, {outputs.data(), 1}, work);
     return accepted ? Model::from_image(model.image().value()).value().image().value() : bytes;
 }
@@ -436,11 +543,15 @@ int main(int count, char **) {
     widths();
     losses();
     trainings();
+    gatherings();
+    refused_gatherings();
+    refused_applications();
     maps();
     edits();
     images();
     allocation();
     threads();
+    building_threads();
     if (count == 1) {
         float_settings();
         float_traps();

@@ -1,6 +1,6 @@
 #!/usr/bin/env bash
 # The C++ side beyond its tests: header_test plainly, under sanitizers, under valgrind's memory and thread checkers; the
-# example under sanitizers; a fuzzer of the image reader and one of prediction and training. `make robustness` runs it,
+# examples under sanitizers; a fuzzer of the image reader and one of prediction and training. `make robustness` runs it,
 # over the archive that is installed, target/lib/libestimator.a.
 # FUZZ_SECONDS: how long each fuzzer runs (default 60). Sanitizers see the C++ code alone; valgrind sees the library too, and
 # the fuzzers lend it memory that ends at a closed page. What guides them is the coverage of what they compare it with.
@@ -34,9 +34,11 @@ echo "header_test under valgrind: memory, then threads"
 valgrind --quiet --error-exitcode=1 --leak-check=full $out/header_test emulated
 valgrind --quiet --error-exitcode=1 --tool=helgrind $out/header_test emulated
 
-echo "the example under sanitizers"
+echo "the examples under sanitizers"
 build scheduler.sanitized g++ -std=c++17 "${sanitizers[@]}" examples/scheduler/main.cpp
 $out/scheduler.sanitized examples/scheduler/files.csv $out/model.kan | tail -n 1
+build builders.sanitized g++ -std=c++17 "${sanitizers[@]}" examples/builders/main.cpp
+$out/builders.sanitized | grep '^(a)'
 
 # fuzz NAME FOLDER SOURCE..: builds a fuzzer and runs it on the folder's samples
 fuzz() {

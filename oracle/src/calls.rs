@@ -5,6 +5,7 @@ use crate::compared::{DEFAULT_4, LATER_20, LATER_23};
 use crate::lent::{Cell, Lent};
 use crate::nans::{fill, first_not_finite, NanAt};
 use crate::ported::Grid;
+use crate::reading::split::{self, Gathering};
 use crate::reading::training::{self, Lesson, Room};
 use crate::reading::visits;
 use crate::reading::{self, Batch, Configuration, Refusal, Work, STUCK_INTERVALS};
@@ -19,6 +20,8 @@ pub enum Kind {
     TrainStep,
     Train,
     Visits,
+    Accumulate,
+    Apply,
 }
 
 /// The kinds that the program `calls` makes.
@@ -39,6 +42,7 @@ pub struct Call {
     pub targets: Lent<f32>,
     pub steps: usize,
     pub rate: f32,
+    pub total: usize,
     pub first: Lent<f32>,
     pub second: Lent<f32>,
     pub gradients: Lent<f32>,
@@ -65,6 +69,7 @@ impl Call {
             targets: Lent::null(),
             steps: 0,
             rate: 0.0,
+            total: 0,
             first: Lent::null(),
             second: Lent::null(),
             gradients: Lent::null(),
@@ -142,6 +147,31 @@ impl Call {
         visits::map(config, model, inputs, work, self.map.contents_mut())
     }
 
+    /// By `accumulate` itself, or by its checks alone.
+    fn read_accumulate(
+        &mut self,
+        config: &Configuration,
+        read: fn(&Configuration, &[f32], Gathering, Room) -> Result<(), Refusal>,
+    ) -> Result<(), Refusal> {
+        let gathering = Gathering {
+            batch: Batch {
+                inputs: self.inputs.contents(),
+                targets: self.targets.contents(),
+            },
+            total: self.total,
+        };
+        let room = Room {
+            gradients: self.gradients.contents_mut(),
+            work: self.work.contents_mut(),
+        };
+        read(config, self.model.contents(), gathering, room)
+    }
+
+    fn read_apply(&mut self, config: &Configuration) -> Result<(), Refusal> {
+        let (model, gradients) = (self.model.contents_mut(), self.gradients.contents());
+        split::apply(config, model, gradients, self.rate)
+    }
+
     /// Of an accepted map, the places of coefficients that it marks by their slopes alone.
     pub fn marked_by_slope(&self) -> Vec<usize> {
         let config = Configuration::new(self.widths.contents(), self.grid);
@@ -167,6 +197,8 @@ impl Compared for Call {
             Kind::TrainStep => self.read_training(&config, 1).1,
             Kind::Train => self.read_train(&config),
             Kind::Visits => self.read_visits(&config),
+            Kind::Accumulate => self.read_accumulate(&config, split::accumulate),
+            Kind::Apply => self.read_apply(&config),
         };
         let (number, carried) = reading::told(answer);
         self.number = number;
@@ -187,7 +219,11 @@ impl Compared for Call {
             lines.compare(name, own, others);
         }
         for ((name, own), (_, others)) in self.floats().into_iter().zip(other.floats()) {
-            lines.compare(name, own, others);
+            if self.summed() == Some(name) {
+                lines.compare(name, &own.with_one_nan(), &others.with_one_nan());
+            } else {
+                lines.compare(name, own, others);
+            }
         }
         lines.compare("map", &self.map, &other.map);
         lines.all()
@@ -210,11 +246,12 @@ impl Compared for Call {
     fn written(&self) -> Vec<u64> {
         match self.kind {
             Kind::Check => bits(&self.parameters),
-            Kind::Initialise | Kind::TrainStep => bits(&self.model),
+            Kind::Initialise | Kind::TrainStep | Kind::Apply => bits(&self.model),
             Kind::Predict => bits(&self.outputs),
             Kind::Loss => bits(&self.loss),
             Kind::Train => [bits(&self.done), bits(&self.model)].concat(),
             Kind::Visits => bits(&self.map),
+            Kind::Accumulate => bits(&self.gradients.with_one_nan()),
         }
     }
 
@@ -232,28 +269,40 @@ impl Compared for Call {
         ]
     }
 
+    fn summed(&self) -> Option<&'static str> {
+        (self.kind == Kind::Accumulate && self.number == 0).then_some("gradients")
+    }
+
     /// Of training, the answer of no steps: what they meet does not come from numbers that are not finite.
     fn expected(&self) -> (u32, usize) {
         let mut call = self.clone();
-        if matches!(self.kind, Kind::TrainStep | Kind::Train) {
-            call.kind = Kind::Train;
-            call.steps = 0;
+        match self.kind {
+            Kind::TrainStep | Kind::Train => {
+                call.kind = Kind::Train;
+                call.steps = 0;
+            }
+            Kind::Accumulate => {
+                let config = Configuration::new(call.widths.contents(), call.grid);
+                return reading::told(call.read_accumulate(&config, split::checks));
+            }
+            _ => (),
         }
         call.read().answer()
     }
 
     fn with_nans(mut self, (number, row): (u32, usize), nan_at: NanAt) -> Self {
-        let (model, inputs, targets) = (
+        let (model, inputs, targets, gradients) = (
             self.unread_model(number),
             self.unread_inputs(number, row),
             self.unread_targets(number),
+            self.unread_gradients(number),
         );
         fill(&mut self.model, model, nan_at);
         fill(&mut self.inputs, inputs, nan_at);
         fill(&mut self.targets, targets, nan_at);
         fill(&mut self.first, 0, nan_at);
         fill(&mut self.second, 0, nan_at);
-        fill(&mut self.gradients, 0, nan_at);
+        fill(&mut self.gradients, gradients, nan_at);
         fill(&mut self.work, 0, nan_at);
         fill(&mut self.outputs, 0, nan_at);
         if self.kind == Kind::Loss {
@@ -307,6 +356,14 @@ impl Call {
             _ => self.targets.len(),
         }
     }
+
+    /// What an accepted call adds to, or applies, is left as it is. Any NaN that is applied is 23.
+    fn unread_gradients(&self, number: u32) -> usize {
+        match (self.kind, number) {
+            (Kind::Accumulate | Kind::Apply, 0) => self.gradients.len(),
+            _ => 0,
+        }
+    }
 }
 
 /// Where the short row of a batch begins.
@@ -330,15 +387,17 @@ impl Column for Kind {
             Kind::Train => &[
                 8, 9, 11, 12, 13, 14, 15, 16, 17, 18, 19, 20, LATER_20, 23, LATER_23,
             ],
+            Kind::Accumulate => &[8, 9, 10, 11, 12, 13, 14, 15, 16, 17, 18, 20, 28],
+            Kind::Apply => &[8, 10, 11, 19, 23],
         };
         line <= 7 || line == DEFAULT_4 || beyond_configuration.contains(&line)
     }
 
-    /// A check is lent none, and accepted initialisation writes all.
+    /// A check is lent none, accepted initialisation writes all, and what is applied is finite.
     fn leaves_floats(self, line: Line) -> bool {
         match self {
             Kind::Check => false,
-            Kind::Initialise => line != 0 && self.gives(line),
+            Kind::Initialise | Kind::Apply => line != 0 && self.gives(line),
             _ => self.gives(line),
         }
     }
@@ -354,6 +413,8 @@ impl Display for Kind {
             Kind::TrainStep => "train_step",
             Kind::Train => "train",
             Kind::Visits => "visits",
+            Kind::Accumulate => "accumulate",
+            Kind::Apply => "apply",
         })
     }
 }
@@ -363,17 +424,18 @@ impl Display for Call {
     fn fmt(&self, formatter: &mut fmt::Formatter<'_>) -> fmt::Result {
         let Grid { intervals, lo, hi } = self.grid;
         let (lo, hi, seed) = (lo.to_bits(), hi.to_bits(), self.seed);
-        let (steps, rate) = (self.steps, self.rate.to_bits());
+        let (steps, rate, total) = (self.steps, self.rate.to_bits(), self.total);
         writeln!(
             formatter,
             "kan_{} widths {}",
             self.kind,
             cells(&self.widths)
         )?;
-        writeln!(
+        write!(
             formatter,
-            "    intervals {intervals:x} lo {lo:x} hi {hi:x} seed {seed:x} steps {steps:x} rate {rate:x}"
+            "    intervals {intervals:x} lo {lo:x} hi {hi:x} seed {seed:x} steps {steps:x} "
         )?;
+        writeln!(formatter, "rate {rate:x} total {total:x}")?;
         for (name, buffer) in self.floats() {
             writeln!(formatter, "    {name} {}", cells(buffer))?;
         }

@@ -50,6 +50,8 @@ impl Stored for Call {
                 let (steps, done) = (self.steps as u64, bits(&read.done));
                 ('T', self.training_words(read, &[steps], &done))
             }
+            Kind::Accumulate => ('A', self.accumulate_words(read)),
+            Kind::Apply => ('X', self.apply_words(read)),
             kind => panic!("no list has a form for {kind}"),
         };
         vec![line(tag, &[first.concat(), more])]
@@ -67,6 +69,20 @@ impl Call {
             left.concat(),
         ]
         .concat()
+    }
+
+    fn accumulate_words(&self, read: &Call) -> Vec<u64> {
+        let batch = [list(&self.inputs), list(&self.targets)].concat();
+        let asked = [vec![self.total as u64], list(&self.gradients)].concat();
+        let lent = length(&self.work);
+        let left = [bits(&read.gradients), bits(&read.work)].concat();
+        [batch, asked, lent, answer(read), left].concat()
+    }
+
+    /// The gradients are only read.
+    fn apply_words(&self, read: &Call) -> Vec<u64> {
+        let asked = [list(&self.gradients), vec![float(self.rate)]].concat();
+        [asked, answer(read), bits(&read.model)].concat()
     }
 
     /// What one of the two calls asks and answers more than the other stands behind the rate and the answer.

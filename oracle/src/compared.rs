@@ -8,7 +8,7 @@ use std::fmt::Display;
 pub type Line = usize;
 
 /// The refusals of R3.1, and accepted calls.
-const NUMBERS: usize = 28;
+const NUMBERS: usize = 29;
 /// 4 with the domain [-1, 1].
 pub const DEFAULT_4: Line = NUMBERS;
 /// 20 and 23 after at least one step of the same call.
@@ -48,6 +48,12 @@ pub trait Compared: Clone + Display {
 
     /// All lent floats by name.
     fn floats(&self) -> Vec<(&'static str, &Lent<f32>)>;
+
+    /// The name of the lent floats to which this call has added. A NaN there may be one that a sum
+    /// gave, and then its bits are the machine's choice.
+    fn summed(&self) -> Option<&'static str> {
+        None
+    }
 
     /// The answer that the call will give, as far as that tells which of the lent floats decide it.
     fn expected(&self) -> (u32, usize) {

@@ -1,5 +1,6 @@
 //! Drawn calls: sound ones, and ones with faults of every kind, several at a time, so that the checks' order shows.
 
+pub mod chains;
 mod images;
 mod training;
 pub mod unmarked;
@@ -88,6 +89,8 @@ impl Maker {
             Kind::Loss => self.loss(&mut call, &sound),
             Kind::TrainStep | Kind::Train => self.train(&mut call, &sound),
             Kind::Visits => self.visits(&mut call, &sound),
+            Kind::Accumulate => self.accumulate(&mut call, &sound),
+            Kind::Apply => self.apply(&mut call, &sound),
         }
         self.with_nans(call)
     }

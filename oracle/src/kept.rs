@@ -19,8 +19,8 @@ impl Kept {
         }
     }
 
-    /// Counts what one call left alone, and tells of NaN with other bits than before: no call writes a NaN, so that one
-    /// that lies in memory afterwards lay there already.
+    /// Counts what one call left alone, and tells of NaN with other bits than before: no call
+    /// writes a NaN but as a sum, so that one that lies elsewhere afterwards lay there already.
     pub fn count<C: Compared>(
         &mut self,
         column: usize,
@@ -29,7 +29,8 @@ impl Kept {
         after: &C,
     ) -> Vec<String> {
         let mut changed = Vec::new();
-        for ((name, old), (_, new)) in before.floats().into_iter().zip(after.floats()) {
+        let both = before.floats().into_iter().zip(after.floats());
+        for ((name, old), (_, new)) in both.filter(|((name, _), _)| after.summed() != Some(name)) {
             let mut counts = [0; 2];
             let pairs = old.contents().iter().zip(new.contents());
             for (place, (old, new)) in pairs.enumerate().filter(|(_, (_, new))| new.is_nan()) {

@@ -1,5 +1,6 @@
 //! Memory lent to a call: the cells it may use, and guards on both sides that it must leave alone.
 
+use crate::exponential::NAN_BITS;
 use std::ptr;
 
 /// An odd number, so that what is lent lies at no rounder address than it must.
@@ -120,5 +121,16 @@ impl<T: Cell> Lent<T> {
         let bits = pairs.map(|(a, b)| (a.bits(), b.bits()));
         let (place, (a, b)) = bits.enumerate().find(|(_, (a, b))| a != b)?;
         Some((place as isize - self.front as isize, a, b))
+    }
+}
+
+impl Lent<f32> {
+    /// The same with one NaN for all: which one a sum gives depends on the machine.
+    pub fn with_one_nan(&self) -> Self {
+        let mut lent = self.clone();
+        for cell in lent.cells.iter_mut().filter(|cell| cell.is_nan()) {
+            *cell = f32::from_bits(NAN_BITS);
+        }
+        lent
     }
 }

@@ -66,6 +66,30 @@ impl Grid {
     }
 }
 
+/// One edge of a network as the Rust has it.
+pub struct Edge(SplineActivation);
+
+impl Edge {
+    /// From its parameters in the flat order: base weight, spline weight, coefficients.
+    pub fn new(grid: &Grid, parameters: &[f32]) -> Self {
+        let (base, spline, coefficients) = (parameters[0], parameters[1], &parameters[2..]);
+        let (intervals, domain) = (grid.intervals, grid.domain());
+        let coefficients = coefficients.to_vec();
+        Edge(SplineActivation::new(
+            intervals,
+            domain,
+            base,
+            spline,
+            coefficients,
+        ))
+    }
+
+    /// What it adds to its output's node.
+    pub fn value(&self, x: f32) -> f32 {
+        self.0.evaluate(x).0
+    }
+}
+
 // Never inlined: a compiler may work out `exp` of a constant by itself, and then it is not E.
 #[inline(never)]
 pub fn silu(x: f32) -> f32 {

@@ -1,6 +1,7 @@
 //! Chosen calls with the answers that are settled for them: number, what is carried, and the numbers written.
 
 pub mod images;
+pub mod split;
 pub mod training;
 pub mod visits;
 
@@ -197,6 +198,14 @@ fn writes<C>(call: C, number: u32, carried: usize, written: &[u64]) -> Settled<C
 fn headed<C>(heading: &'static str, mut calls: Vec<Settled<C>>) -> Vec<Settled<C>> {
     calls[0].heading = heading;
     calls
+}
+
+/// Calls with what the stored lists say of each.
+fn all_headed<C>(calls: Vec<(&'static str, Settled<C>)>) -> Vec<Settled<C>> {
+    let calls = calls.into_iter();
+    calls
+        .flat_map(|(heading, call)| headed(heading, vec![call]))
+        .collect()
 }
 
 /// Some of the chosen calls. They are made group by group, as some take much memory.

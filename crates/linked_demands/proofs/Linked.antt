@@ -24,7 +24,7 @@ use Rattle.linked_demands.specs.Linked.{SameLinked, SameKanPredict, Same
 use Rattle.linked_demands.specs.Linked.{LinkedDemand, LinkedHidden, LinkedUnmarked, LinkedDemands}
 
 -- the same answer has the same number, and carries the same
-told-alike : {A : Type 0} {refusalOf : A → Refusal} {P Q : A → Type 0} {Rest : Type 0}
+pub told-alike : {A : Type 0} {refusalOf : A → Refusal} {P Q : A → Type 0} {Rest : Type 0}
     → ((x y : A) → P x → Q y → (x ≡ y) × Rest) → SameLinked refusalOf P Q Rest
 told-alike {refusalOf = refusalOf} same r s c d p q =
     let both = same (p .answer) (q .answer) (p .call) (q .call) in (
@@ -79,7 +79,7 @@ linked-hidden ws g ps xs =
     }
 
 -- a call that was told as 0 was not refused
-told-done : (n c : ℕ) (r : Outcome) → r ≡ outcomeOf n c → 0 ≡ outcomeRefusal r .number → r ≡ Done
+pub told-done : (n c : ℕ) (r : Outcome) → r ≡ outcomeOf n c → 0 ≡ outcomeRefusal r .number → r ≡ Done
 told-done zero c r e z = e
 told-done (suc n) c r e z =
     let z : _≡_ {A = ℕ} 0 (suc n) = z ∙ ap (λ (o : Outcome). outcomeRefusal o .number) e in absurd (omega arith)

@@ -10,7 +10,6 @@ use Rattle.refusals.specs.Refusals.{outcomeRefusal}
 use Rattle.spline.specs.declared.Grid.{Grid}
 use Rattle.layers.specs.Net.{Net, netOf}
 use Rattle.admission.specs.Admission.{upTo9InTraining}
-use Rattle.fast_gradients.specs.Adding.{Clean}
 use Rattle.training.specs.Train.{Stepped}
 use Rattle.split_training.specs.Accumulating.{Accumulated}
 use Rattle.split_training.specs.Applying.{Applied}
@@ -20,6 +19,7 @@ use Rattle.demands.specs.Start.{fromMinusZero}
 use Rattle.split_demands.specs.Chains.{Part}
 use Rattle.split_demands.specs.Joined.{joinedInputs, joinedTargets, Stating}
 use Rattle.split_demands.specs.Alike.{ChainReads}
+use Rattle.split_demands.specs.Start.{NoMinusZero}
 use Rattle.estimator.specs.Linkage.{Linked}
 
 -- what a C function tells: the number, and what it carries
@@ -66,7 +66,7 @@ pub record LinkedChains : Type 0 where
       → Linked outcomeRefusal s d (λ o. Applied ws g qs gs″ rate o qs′)
       → (told ≡ also) × (gs′ ≡ gs″) × (r ≡ s) × (c ≡ d) × LeftAlike D ps qs ps′ qs′
   -- R17.7: `kan_accumulate` on the network and on the one that starts at -0.0, where no lent gradient is -0.0
-  pub start : (ws : List ℕ) (g : Grid) (ps xs ts : List Float) (total : ℕ) (gs W : List Float) → Clean (length gs) gs
+  pub start : (ws : List ℕ) (g : Grid) (ps xs ts : List Float) (total : ℕ) (gs W : List Float) → NoMinusZero gs
       → (r s c d : ℕ) (gs′ W′ gs″ W″ : List Float)
       → Linked outcomeRefusal r c (λ o. Accumulated (netOf g) ws g ps xs ts total gs W o gs′ W′)
       → Linked outcomeRefusal s d (λ o. Accumulated (fromMinusZero g) ws g ps xs ts total gs W o gs″ W″)

@@ -1,1 +1,2 @@
-// Theorems alone: demand 3 and the start of `dot`, of the C functions.
+// Theorems alone, of the C functions: demand 3, the start of `dot`, what a visit map shows, and chains of the two calls that a
+// step is made of.

@@ -14,11 +14,10 @@ use Rattle.passes.specs.Pass.{rowsOf}
 use Rattle.config.specs.Config.{parametersFor, carriedBy}
 use Rattle.admission.specs.Admission.{upTo9ForNodes}
 use Rattle.batch_gradients.specs.Accumulate.{scaleOf, gathered}
-use Rattle.fast_gradients.specs.Adding.{Clean}
 use Rattle.demands.specs.Start.{fromMinusZero}
 use Rattle.demands.proofs.Start.{finite-start, gathered-start}
 use Rattle.split_training.specs.Accumulating.{upTo28, accumulateFault}
-use Rattle.split_demands.specs.Start.{StartAccumulating}
+use Rattle.split_demands.specs.Start.{NoMinusZero, StartAccumulating}
 
 module _ (ws : List ℕ) (g : Grid) (ps xs ts : List Float) (total : ℕ) (gs W : List Float) where
   abbrev carried : ℕ
@@ -30,7 +29,7 @@ module _ (ws : List ℕ) (g : Grid) (ps xs ts : List Float) (total : ℕ) (gs W 
       upTo28 (netOf g) ws g ps xs ts total gs W
       then allTo (λ (r : ℕ). finite-start (netOf g) ps ws (rowAt xs (inputWidth ws) r) i) (rowsOf ws xs) otherwise 20
 
-  added-start : Clean (length gs) gs → gathered (netOf g) ps ws xs ts (outputWidth ws) (scaleOf total) gs (rowsOf ws xs)
+  added-start : NoMinusZero gs → gathered (netOf g) ps ws xs ts (outputWidth ws) (scaleOf total) gs (rowsOf ws xs)
       ≡ gathered (fromMinusZero g) ps ws xs ts (outputWidth ws) (scaleOf total) gs (rowsOf ws xs)
   added-start clean =
       gathered-start (netOf g) ps ws xs ts (outputWidth ws) (scaleOf total) gs (rowsOf ws xs)

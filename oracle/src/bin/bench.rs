@@ -1,5 +1,7 @@
-//! Times three programs on the same inputs, in turns: the ported Rust, the proved library (`libestimator.a`) and the fast
-//! algorithm written by hand (`bench/handwritten.cpp`). All answers are compared bit by bit. Prints Markdown tables.
+//! Times three programs on the same inputs, in turns: the ported Rust, the proved library
+//! (`libestimator.a`) and the fast algorithm written by hand (`bench/handwritten.cpp`). In turns
+//! too: the library's training step, and the two calls that make the same step. All answers are
+//! compared bit by bit. Prints Markdown tables.
 
 use kan_oracle::arguments;
 use kan_oracle::draws::Draws;
@@ -14,10 +16,16 @@ const PREDICTED_ROWS: usize = 256;
 const TRAINED_ROWS: usize = 64;
 const RATE: f32 = 0.05;
 const FEWEST_TURNS: usize = 3;
+const SHAPES: [&[usize]; 3] = [&[8, 16, 1], &[4, 8, 8, 1], &[1, 1]];
 const GRIDS: [usize; 4] = [5, 16, 64, 256];
 const HEAD: &str = concat!(
     "| shape | g | edges | Rust, ns a row | library | by hand | Rust, ns an edge | library | by hand ",
     "| Rust/library | library/by hand | bits |"
+);
+
+const SPLIT_HEAD: &str = concat!(
+    "| shape | g | edges | train_step, ns a row | accumulate | apply | accumulate, ns an edge ",
+    "| accumulate/(train_step - apply) | (accumulate + apply)/train_step | bits |"
 );
 
 mod linked {
@@ -59,6 +67,40 @@ mod linked {
             gradients_len: usize,
             work: *mut f32,
             work_len: usize,
+            carried: *mut usize,
+        ) -> u32;
+
+        pub fn kan_accumulate(
+            widths: *const usize,
+            widths_len: usize,
+            intervals: usize,
+            lo: f32,
+            hi: f32,
+            model: *const f32,
+            model_len: usize,
+            inputs: *const f32,
+            inputs_len: usize,
+            targets: *const f32,
+            targets_len: usize,
+            total: usize,
+            gradients: *mut f32,
+            gradients_len: usize,
+            work: *mut f32,
+            work_len: usize,
+            carried: *mut usize,
+        ) -> u32;
+
+        pub fn kan_apply(
+            widths: *const usize,
+            widths_len: usize,
+            intervals: usize,
+            lo: f32,
+            hi: f32,
+            model: *mut f32,
+            model_len: usize,
+            gradients: *const f32,
+            gradients_len: usize,
+            rate: f32,
             carried: *mut usize,
         ) -> u32;
     }
@@ -300,6 +342,75 @@ fn train_by_hand(case: &mut Case) -> (Duration, Vec<f32>) {
     (time, model)
 }
 
+/// The time of `kan_accumulate` from gradients all +0.0.
+fn accumulate(case: &mut Case) -> Duration {
+    case.gradients.fill(0.0);
+    let mut carried = 0;
+    let start = own_time();
+    // Every buffer is lent with its own length.
+    let number = unsafe {
+        linked::kan_accumulate(
+            case.widths.as_ptr(),
+            case.widths.len(),
+            case.grid.intervals,
+            case.grid.lo,
+            case.grid.hi,
+            case.model.as_ptr(),
+            case.model.len(),
+            case.inputs.as_ptr(),
+            case.inputs.len(),
+            case.targets.as_ptr(),
+            case.targets.len(),
+            case.targets.len(),
+            case.gradients.as_mut_ptr(),
+            case.gradients.len(),
+            case.work.as_mut_ptr(),
+            case.work.len(),
+            &mut carried,
+        )
+    };
+    let time = own_time() - start;
+    assert_eq!(number, 0, "kan_accumulate refused");
+    time
+}
+
+/// The time of `kan_apply`, and the model.
+fn apply(case: &mut Case) -> (Duration, Vec<f32>) {
+    let mut model = case.model.clone();
+    let mut carried = 0;
+    let start = own_time();
+    // Every buffer is lent with its own length.
+    let number = unsafe {
+        linked::kan_apply(
+            case.widths.as_ptr(),
+            case.widths.len(),
+            case.grid.intervals,
+            case.grid.lo,
+            case.grid.hi,
+            model.as_mut_ptr(),
+            model.len(),
+            case.gradients.as_ptr(),
+            case.gradients.len(),
+            RATE,
+            &mut carried,
+        )
+    };
+    let time = own_time() - start;
+    assert_eq!(number, 0, "kan_apply refused");
+    (time, model)
+}
+
+fn accumulate_of_two(case: &mut Case) -> (Duration, Vec<f32>) {
+    let time = accumulate(case);
+    (time, apply(case).1)
+}
+
+fn apply_of_two(case: &mut Case) -> (Duration, Vec<f32>) {
+    accumulate(case);
+    apply(case)
+}
+
+const SPLIT: [Call; 3] = [train_of_library, accumulate_of_two, apply_of_two];
 const PREDICT: [Call; 3] = [predict_of_rust, predict_of_library, predict_by_hand];
 const TRAIN: [Call; 3] = [train_of_rust, train_of_library, train_by_hand];
 
@@ -353,11 +464,38 @@ impl Bench {
 
     fn shapes(&mut self, title: &str, rows: usize, calls: [Call; 3]) {
         self.head(title);
-        for widths in [&[8, 16, 1][..], &[4, 8, 8, 1], &[1, 1]] {
+        for widths in SHAPES {
             for intervals in GRIDS {
                 self.line(widths, intervals, rows, calls);
             }
         }
+    }
+
+    /// A training step beside the two calls that make the same step.
+    fn split(&mut self) {
+        println!("\nTraining in two calls on 64 rows, by the library\n\n{SPLIT_HEAD}");
+        println!("|---|---|---|---|---|---|---|---|---|---|");
+        for widths in SHAPES {
+            for intervals in GRIDS {
+                self.split_line(widths, intervals);
+            }
+        }
+    }
+
+    fn split_line(&mut self, widths: &[usize], intervals: usize) {
+        let mut case = Case::new(widths, intervals, TRAINED_ROWS);
+        let (times, alike) = timed(&mut case, SPLIT, self.time);
+        let [step, gathered, applied] = times.map(|time| time / case.rows() as f64);
+        let edges = case.edges() as f64;
+        print!("| {widths:?} | {intervals} | {edges} | {step:.0} | {gathered:.0} | {applied:.1} ");
+        println!(
+            "| {:.1} | {:.2} | {:.2} | {} |",
+            gathered / edges,
+            gathered / (step - applied),
+            (gathered + applied) / step,
+            if alike { "same" } else { "DIFFERENT" }
+        );
+        self.alike &= alike;
     }
 
     fn growth(&mut self) {
@@ -373,9 +511,14 @@ impl Bench {
 }
 
 /// Each call once on a few rows of [8, 16, 1], for an instruction counter.
-fn once(intervals: usize, rows: usize, training: bool) -> ExitCode {
+fn once(intervals: usize, rows: usize, training: u64) -> ExitCode {
     let mut case = Case::new(&[8, 16, 1], intervals, rows);
-    for call in if training { TRAIN } else { PREDICT } {
+    let calls: &[Call] = match training {
+        0 => &PREDICT,
+        1 => &TRAIN,
+        _ => &[train_of_library, accumulate_of_two],
+    };
+    for call in calls {
         black_box(call(&mut case));
     }
     ExitCode::SUCCESS
@@ -391,7 +534,7 @@ fn main() -> ExitCode {
     // First of all: it also has E's table made.
     demand_e();
     if intervals > 0 {
-        return once(intervals as usize, rows as usize, training == 1);
+        return once(intervals as usize, rows as usize, training);
     }
     let mut bench = Bench {
         time: Duration::from_millis(milliseconds),
@@ -400,6 +543,7 @@ fn main() -> ExitCode {
     bench.shapes("Prediction of 256 rows", PREDICTED_ROWS, PREDICT);
     if training == 1 {
         bench.shapes("One training step on 64 rows", TRAINED_ROWS, TRAIN);
+        bench.split();
     }
     bench.growth();
     if bench.alike {

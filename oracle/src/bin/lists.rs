@@ -1,5 +1,5 @@
 //! Writes a stored list of answers to standard output: that of the leaves, or, where it is named, that of the calls on
-//! `images` or of the visit map (`visits`).
+//! `images`, of the visit map (`visits`) or of training in two calls (`split`).
 
 use kan_oracle::bits::hex;
 use kan_oracle::cases::Stored;
@@ -10,6 +10,7 @@ use kan_oracle::models::demand_exact;
 use kan_oracle::ported::{demand_e, root, silu, silu_derivative, Grid};
 use kan_oracle::settled::Chosen;
 use kan_oracle::settled_calls::images::stored_images;
+use kan_oracle::settled_calls::split::stored_split;
 use kan_oracle::settled_calls::visits::stored_visits;
 use std::process::ExitCode;
 
@@ -51,14 +52,29 @@ const VISITS_HEADER: &str = "\
 # Z: [1, 1], g 2, [-1, 1], weights 0 and 1, coefficients 0.    A21: [2, 1], g 2, [-1, 1], drawn from seed 7.
 # BIG: Z with base weight 3e38.    INF: Z with coefficients 0, 0.25, 0.5, 0.125, infinite.";
 
+const SPLIT_HEADER: &str = "\
+# Settled cases of training in two calls, with all that the calls leave in what they may write. Made
+# by `oracle/lists.sh`: the answers are those of docs/RULES.md (D72 to D80 name cases), held to a
+# reading over the ported Rust, which the oracle's program `chains` holds to the Rust's own step.
+# A line is a tag and lower-case hexadecimal words; f32 numbers are their bits, NaN 7fc00000. A
+# configuration is K w0 .. w(K-1) g lo hi. A list is its length and then its numbers. A call that is
+# accepted has number 0.
+# A configuration model inputs targets total gradients B number carried gradients work
+#   accumulating; the gradients before and, as many, after; the B numbers of the work are 9.0 before
+# X configuration model gradients rate number carried model
+#   applying
+# Z: [1, 1], g 2, [-1, 1], weights 0 and 1, coefficients 0. A21: [2, 1], g 2, [-1, 1], from seed 7.
+# Of D76 the oracle alone meets 2^24 + 1 rows, and D74, which leaves NaN.";
+
 fn main() -> ExitCode {
     demand_e();
     match std::env::args().nth(1).as_deref() {
         None => list_leaves(),
         Some("images") => list_calls(IMAGES_HEADER, stored_images()),
         Some("visits") => list_calls(VISITS_HEADER, stored_visits()),
+        Some("split") => list_calls(SPLIT_HEADER, stored_split()),
         Some(name) => {
-            eprintln!("lists are named images and visits, and not {name}");
+            eprintln!("lists are named images, visits and split, and not {name}");
             return ExitCode::from(2);
         }
     }

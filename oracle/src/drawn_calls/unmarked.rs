@@ -11,7 +11,13 @@ use crate::reading::Configuration;
 use crate::rounds::{Comparison, Round};
 
 /// What both models are asked.
-pub const ASKED: [Kind; 4] = [Kind::Predict, Kind::Loss, Kind::TrainStep, Kind::Visits];
+pub const ASKED: [Kind; 5] = [
+    Kind::Predict,
+    Kind::Loss,
+    Kind::TrainStep,
+    Kind::Accumulate,
+    Kind::Visits,
+];
 
 /// What every long run meets. The last two show why slopes mark: a coefficient that only a slope marks can decide a step.
 pub const SIGHTS: [&str; 5] = [PAIRS, EDITED, MARKED_BY_SLOPE, EDITED_BY_SLOPE, PARTED];
@@ -28,6 +34,7 @@ pub fn gives(kind: Kind, line: Line) -> bool {
         Kind::Visits => &[0, 20],
         Kind::Loss => &[0, 13, 21, 22],
         Kind::TrainStep => &[0, 13, 19, 23],
+        Kind::Accumulate => &[0, 13],
         _ => &[0],
     };
     lines.contains(&line)
@@ -182,12 +189,13 @@ impl Maker {
         call.inputs = self.lend(&inputs);
         call.targets = self.lend(&targets);
         call.rate = self.rate();
+        call.total = targets.len().max(1);
         lend_room(&mut call, &sound, rows);
         call
     }
 
     /// A small network that is accepted, on a grid that is drawn in this way.
-    fn accepted_on(&mut self, grid: fn(&mut Maker) -> Grid) -> Configuration {
+    pub(super) fn accepted_on(&mut self, grid: fn(&mut Maker) -> Grid) -> Configuration {
         loop {
             let config = self.sound_on(grid);
             if config.grid.is_accepted() {

@@ -1,8 +1,8 @@
 //! Chosen calls of the visit map.
 
 use super::training::{slopes_beside_zero, zero_slopes};
+use super::{all_headed, grouped, headed, settled, writes, Group, Model};
 use super::{base, beside_a_knot, chain, infinite, initial, largest_models, pair};
-use super::{grouped, headed, settled, writes, Group, Model};
 use super::{FAULTY, MARKED_BY_SLOPE, NAN, UNMARKED};
 use crate::calls::{Call, Kind};
 use crate::lent::Lent;
@@ -40,13 +40,6 @@ impl Model {
         call.map = Lent::new(&vec![OLD_MARK; self.config.parameters()]);
         call
     }
-}
-
-fn all_headed(calls: Vec<(&'static str, Settled<Call>)>) -> Vec<Settled<Call>> {
-    let calls = calls.into_iter();
-    calls
-        .flat_map(|(heading, call)| headed(heading, vec![call]))
-        .collect()
 }
 
 fn maps(call: Call, map: &[u64]) -> Settled<Call> {

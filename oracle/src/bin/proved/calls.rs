@@ -125,6 +125,40 @@ extern "C" {
         map_len: usize,
         carried: *mut usize,
     ) -> u32;
+
+    fn kan_accumulate(
+        widths: *const usize,
+        widths_len: usize,
+        intervals: usize,
+        lo: f32,
+        hi: f32,
+        model: *const f32,
+        model_len: usize,
+        inputs: *const f32,
+        inputs_len: usize,
+        targets: *const f32,
+        targets_len: usize,
+        total: usize,
+        gradients: *mut f32,
+        gradients_len: usize,
+        work: *mut f32,
+        work_len: usize,
+        carried: *mut usize,
+    ) -> u32;
+
+    fn kan_apply(
+        widths: *const usize,
+        widths_len: usize,
+        intervals: usize,
+        lo: f32,
+        hi: f32,
+        model: *mut f32,
+        model_len: usize,
+        gradients: *const f32,
+        gradients_len: usize,
+        rate: f32,
+        carried: *mut usize,
+    ) -> u32;
 }
 
 /// The call as the archive makes it.
@@ -138,6 +172,8 @@ pub fn made(mut call: Call) -> Call {
         Kind::TrainStep => unsafe { train_step(&mut call) },
         Kind::Train => unsafe { train(&mut call) },
         Kind::Visits => unsafe { visits(&mut call) },
+        Kind::Accumulate => unsafe { accumulate(&mut call) },
+        Kind::Apply => unsafe { apply(&mut call) },
     };
     call
 }
@@ -274,6 +310,44 @@ unsafe fn visits(call: &mut Call) -> u32 {
         call.second.len(),
         call.map.pointer_mut(),
         call.map.len(),
+        call.carried.pointer_mut(),
+    )
+}
+
+unsafe fn accumulate(call: &mut Call) -> u32 {
+    kan_accumulate(
+        call.widths.pointer(),
+        call.widths.len(),
+        call.grid.intervals,
+        call.grid.lo,
+        call.grid.hi,
+        call.model.pointer(),
+        call.model.len(),
+        call.inputs.pointer(),
+        call.inputs.len(),
+        call.targets.pointer(),
+        call.targets.len(),
+        call.total,
+        call.gradients.pointer_mut(),
+        call.gradients.len(),
+        call.work.pointer_mut(),
+        call.work.len(),
+        call.carried.pointer_mut(),
+    )
+}
+
+unsafe fn apply(call: &mut Call) -> u32 {
+    kan_apply(
+        call.widths.pointer(),
+        call.widths.len(),
+        call.grid.intervals,
+        call.grid.lo,
+        call.grid.hi,
+        call.model.pointer_mut(),
+        call.model.len(),
+        call.gradients.pointer(),
+        call.gradients.len(),
+        call.rate,
         call.carried.pointer_mut(),
     )
 }

@@ -11,7 +11,7 @@ use Rattle.refusals.specs.Refusals.{outcomeOf, outcomeRefusal}
 use Rattle.spline.specs.declared.Grid.{Grid}
 use Rattle.layers.specs.Net.{Net, netOf}
 use Rattle.demands.specs.Silent.{Places, Differ}
-use Rattle.demands.specs.Alike.{LeftAlike, SamePredict, SameLoss, SameStep, SameTraining}
+use Rattle.demands.specs.Alike.{SamePredict, SameLoss, SameStep, SameTraining}
 use Rattle.demands.specs.Start.{fromMinusZero}
 use Rattle.demands.proofs.Demand.{demand-3}
 use Rattle.demands.specs.Unmarked.{unmarked}

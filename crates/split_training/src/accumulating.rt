@@ -41,8 +41,8 @@ fn batch_and_total_fault(widths: &[usize], inputs: &[f32], targets: &[f32], tota
     stated
 }
 
-// Whether every row behind the first passes 20: nothing is added. The first row is tested when it is added, before it is,
-// so that a batch of one row goes forward once.
+// Tests the rows of a batch of several, adding nothing, and answers whether those behind the first pass 20. The row of a
+// batch of one is tested when it is added, before anything is, so that it goes forward once.
 fn further_rows_pass(
     grid: Grid,
     table: &[u32; 256],

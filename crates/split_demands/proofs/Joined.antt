@@ -23,10 +23,11 @@ use Rattle.training_step.specs.Step.{gradientOf, stepped, stepFault}
 use Rattle.training.specs.Train.{from11To19, modelAfter, upTo19, trainFault, Stepped}
 use Rattle.split_training.specs.Accumulating.{totalFault}
 use Rattle.split_training.specs.Applying.{applyFault, Applied}
+use Rattle.split_training.proofs.Adding.{total-few}
 use Rattle.split_demands.specs.Chains.{Part, Chain}
 use Rattle.split_demands.specs.Joined.{joinedInputs, joinedTargets, AllDone, Stating, InTwoCalls}
 use Rattle.split_demands.proofs.Rows.{rows-counted, whole-passes}
-use Rattle.split_demands.proofs.Taken.{Taken, gathered-length, input-some, output-some, past-8, total-some, total-few}
+use Rattle.split_demands.proofs.Taken.{Taken, gathered-length, input-some, output-some, past-8, total-some}
 use Rattle.split_demands.proofs.Stepping.{apply-fault, step-model, step-answer, step-left}
 use Rattle.split_demands.proofs.Parts.{Gone, gone-all, gone-begun, first-told}
 

@@ -7,7 +7,7 @@ use mathlib.Core.List.{List}
 use lib.Dec.{eqb}
 use lib.ListN.{length}
 use lib.Ieee.{Float}
-use borrow.Author.Tests.{eqb-true, eqb-false, ne-eqb, leb-true, le-leb, not-true}
+use borrow.Author.Tests.{eqb-true, eqb-false, ne-eqb, le-leb, not-true}
 use Rattle.floats.specs.Sums.{allTo, allFinite}
 use Rattle.floats.proofs.Loops.{tab-length}
 use Rattle.refusals.specs.declared.Outcome.{Outcome}
@@ -36,10 +36,6 @@ output-some {ws} s = s .positive (length ws - 1) (omega (arith, s .some))
 pub past-8 : (ws : List ℕ) (g : Grid) (n work : ℕ) → upTo9ForNodes ws g n work ≡ 0 → upTo8 ws g n ≡ 0
 unfolding upTo9ForNodes
 past-8 ws g n work e = both-pass (upTo8 ws g n) _ e .0
-
-pub total-few : (total : ℕ) → totalFault total ≡ 0 → total ≤ 16777216
-unfolding totalFault
-total-few total e = leb-true total 16777216 (test-passes _ 27 (both-pass (not (eqb total 0) otherwise 28) _ e .1))
 
 pub total-some : (total : ℕ) → totalFault total ≡ 0 → 0 < total
 unfolding totalFault

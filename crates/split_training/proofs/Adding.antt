@@ -89,13 +89,15 @@ module _ {N : Net} {ws : List ℕ} {ps xs ts : List Float} {total : ℕ} {gs W g
       by false z = y .kept (first-fails _ (rowsOf ws xs) (tested .passed e) (sym (y .passed) ∙ z)) ∙ tested .kept
 
 -- ---- what a batch with no fault, and a total with none, give
+pub total-few : (total : ℕ) → totalFault total ≡ 0 → total ≤ 16777216
+unfolding totalFault
+total-few total e = leb-true total 16777216 (test-passes _ 27 (both-pass (not (eqb total 0) otherwise 28) _ e .1))
+
 pub sound-batch : (w v : ℕ) (xs ts : List Float) (total : ℕ) → 0 < w → 0 < v
     → (batchFault w v xs ts then totalFault total) ≡ 0 → SoundBatch w v xs ts × (total ≤ 16777216)
-unfolding totalFault
 sound-batch w v xs ts total some more e =
     let both = both-pass (batchFault w v xs ts) _ e in
-    let few = both-pass (not (eqb total 0) otherwise 28) _ (both .1) in
-    (batch-sound w v xs ts some more (both .0), leb-true total 16777216 (test-passes _ 27 (few .1)))
+    (batch-sound w v xs ts some more (both .0), total-few total (both .1))
 
 -- ---- past check 9
 module _ {N : Net} {ws : List ℕ} {ps xs ts : List Float} {total : ℕ} {gs W : List Float} where

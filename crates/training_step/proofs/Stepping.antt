@@ -44,7 +44,8 @@ module _ (N : Net) (ws : List ℕ) (ps xs ts : List Float) where
 
   -- the slice cleared in front, the gradients put there; the code comes by P as P - 0, from a part's two ends
   pub gather-done : (gs W gs₁ ys W' : List Float) (r : Bool) (scale : Float) → scale ≡ scaleOf (length ts)
-      → SoundBatch (inputWidth ws) (outputWidth ws) xs ts → gs₁ ≡ zeros (length ps) ++ drop (length ps) gs → length ys ≡ length (take (length ps - 0) gs₁)
+      → SoundBatch (inputWidth ws) (outputWidth ws) xs ts → gs₁ ≡ zeros (length ps) ++ drop (length ps) gs
+      → length ys ≡ length (take (length ps - 0) gs₁)
       → RowsTaken N ps ws xs ts scale true (take (length ps - 0) gs₁) W ys W' r
       → GatherDone N ws ps xs ts gs W r (ys ++ drop (length ps - 0) gs₁) W'
   unfolding gradientOf

@@ -28,6 +28,10 @@ use Rattle.estimator.proofs.kan_image_read as read
 use Rattle.estimator.proofs.kan_image_read.Reads as read-reads
 use Rattle.estimator.proofs.kan_image_unpack as unpack
 use Rattle.estimator.proofs.kan_image_unpack.Reads as unpack-reads
+use Rattle.estimator.proofs.kan_npy_write as npy-write
+use Rattle.estimator.proofs.kan_npy_write.Reads as npy-write-reads
+use Rattle.estimator.proofs.kan_npy_read as npy-read
+use Rattle.estimator.proofs.kan_npy_read.Reads as npy-read-reads
 
 -- the last contents of all parameters are one tuple: alike in the first, and alike in the rest
 infixr 30 _&_
@@ -86,3 +90,11 @@ read-determined κs a r r′ w w′ p q =
 pub unpack-determined : Determined unpack.ended unpack-reads.Post
 unpack-determined κs a r r′ w w′ p q =
     (cc, refl & (cc) & (cc) & (cc) & refl)
+
+pub npy-write-determined : Determined npy-write.ended npy-write-reads.Post
+npy-write-determined κs a r r′ w w′ p q =
+    (cc, refl & refl & refl & refl & refl & refl & (cc) & (cc) & refl)
+
+pub npy-read-determined : Determined npy-read.ended npy-read-reads.Post
+npy-read-determined κs a r r′ w w′ p q =
+    (cc, refl & refl & refl & refl & (cc) & refl & refl & (cc) & refl)

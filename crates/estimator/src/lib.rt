@@ -14,6 +14,8 @@ ghost use Rattle.visit_map.specs.Visits.{Visited};
 ghost use Rattle.image_reading.specs.Image.{describeOf, describedRefusal};
 ghost use Rattle.image_writing.specs.Writing.{ImageWritten};
 ghost use Rattle.image_unpacking.specs.Unpacking.{Unpacked};
+ghost use Rattle.npy_writing.specs.Writing.{NpyWritten};
+ghost use Rattle.npy_reading.specs.Reader.{NpyRead};
 ghost use Rattle.estimator.specs.Linkage.{Linked, gridOf, descriptionOf};
 ghost use Rattle.estimator.specs.Linkage.{parametersOr, meanOr, descriptionOr};
 use spline::Grid;
@@ -320,5 +322,43 @@ pub extern "C" fn kan_image_unpack(
         (now (widths .exit)) (now (model .exit))) ⌝ }
 {
     let outcome = image_unpacking::unpack(image, widths, model);
+    tell(outcome, carried)
+}
+
+#[no_mangle]
+pub extern "C" fn kan_npy_write(
+    widths: &[usize],
+    intervals: usize,
+    lo: f32,
+    hi: f32,
+    model: &[f32],
+    layer: usize,
+    file: &mut [u8],
+    carried: &mut usize,
+) -> u32
+    ensures { λ r. ⌜ Linked outcomeRefusal r (now (carried .exit)) (λ o.
+        NpyWritten (now (widths .entry)) (gridOf intervals lo hi) (now (model .entry)) layer (now (file .entry)) o
+        (now (file .exit))) ⌝ }
+{
+    let outcome = npy_writing::write(widths, Grid { intervals, lo, hi }, model, layer, file);
+    tell(outcome, carried)
+}
+
+#[no_mangle]
+pub extern "C" fn kan_npy_read(
+    widths: &[usize],
+    intervals: usize,
+    lo: f32,
+    hi: f32,
+    model: &mut [f32],
+    layer: usize,
+    file: &[u8],
+    carried: &mut usize,
+) -> u32
+    ensures { λ r. ⌜ Linked outcomeRefusal r (now (carried .exit)) (λ o.
+        NpyRead (now (widths .entry)) (gridOf intervals lo hi) (now (model .entry)) layer (now (file .entry)) o
+        (now (model .exit))) ⌝ }
+{
+    let outcome = npy_reading::read(widths, Grid { intervals, lo, hi }, model, layer, file);
     tell(outcome, carried)
 }

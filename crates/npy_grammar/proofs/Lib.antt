@@ -1,0 +1,13 @@
+pub mod Pieces
+pub mod Spans
+pub mod Marks
+pub mod Strings
+pub mod Decimals
+pub mod Shapes
+pub mod Values
+pub mod States
+pub mod Orders
+pub mod EntriesFound
+pub mod EntriesRead
+pub mod Ends
+pub mod Exact

@@ -1,0 +1,5 @@
+pub mod Dictionary
+pub mod Grammar
+pub mod Reading
+pub mod File
+pub mod Steps

@@ -1,0 +1,10 @@
+pub mod Edges
+pub mod Bodies
+pub mod Decimals
+pub mod Headers
+pub mod Files
+pub mod Layers
+pub mod Said
+pub mod InPlace
+pub mod ReadBack
+pub mod RoundTrip

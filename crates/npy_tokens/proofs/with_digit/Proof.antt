@@ -1,0 +1,26 @@
+-- `npy_tokens::with_digit` meets its contract. Assumes nothing.
+use borrow.Author.Needs.{needs}
+use native.Mathlib.Omega.{arith}
+use Rattle.npy_tokens.proofs.with_digit.Statement.{statement}
+use Rattle.npy_tokens.proofs.with_digit.Tie as tie
+
+mul-next : tie.Need-mul-next
+mul-next c = search needs
+
+sub-next : tie.Need-sub-next
+sub-next c = search needs
+
+cast-next : tie.Need-cast-next
+cast-next c = search needs
+
+add-next : tie.Need-add-next
+add-next c = search needs
+
+returns : tie.Need-returns
+returns c = omega arith
+
+returns-2 : tie.Need-returns-2
+returns-2 c = omega arith
+
+pub with-digit-spec : {M : Type 1} → statement M
+with-digit-spec = tie.close (tie.spec mul-next sub-next cast-next add-next returns returns-2)

@@ -1,5 +1,5 @@
 # `make` alone prints what there is.
-.PHONY: help test demo archive install uninstall test-install bench robustness clean
+.PHONY: help test demo archive install uninstall test-install test-numpy bench robustness clean
 .DEFAULT_GOAL := help
 
 PREFIX ?= /usr/local
@@ -17,8 +17,9 @@ help:
 	@echo '                      PREFIX=/usr/local LIBDIR=PREFIX/lib INCLUDEDIR=PREFIX/include'
 	@echo '                      DOCDIR=PREFIX/share/doc/estimator DESTDIR='
 	@echo 'make uninstall      remove what make install put there; same variables'
-	@echo 'make test           the verdict: proofs, edits that must fail, runs, comparison with the Rust'
+	@echo 'make test           the verdict: proofs, edits that must fail, runs, comparison with the Rust and NumPy'
 	@echo 'make test-install   install into a fresh folder and build against it in every way'
+	@echo 'make test-numpy     exchange NPY files with the installed NumPy'
 	@echo 'make robustness     sanitizers, valgrind, fuzzers (FUZZ_SECONDS=60 each)'
 	@echo 'make bench          times, instructions and stack beside the Rust'
 	@echo 'make clean          remove target/, stored proofs included'
@@ -51,6 +52,9 @@ uninstall:
 
 test-install:
 	packaging/test.sh
+
+test-numpy: archive
+	npy/run.sh
 
 bench: archive
 	bench/run.sh

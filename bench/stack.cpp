@@ -20,7 +20,7 @@ struct Network {
     size_t g, parameters = 0, carried = 0, done = 0;
     float loss_found = 0, lo_read = 0, hi_read = 0;
     std::vector<float> model, inputs, targets, outputs, first, second, gradients, nodes;
-    std::vector<uint8_t> map, bytes;
+    std::vector<uint8_t> map, bytes, npy;
 
     Network(std::vector<size_t> shape, size_t intervals) : widths(std::move(shape)), g(intervals) {
         check();
@@ -34,6 +34,7 @@ struct Network {
         outputs = targets;
         map.resize(parameters);
         bytes.resize(32 + 4 * widths.size() + 4 * parameters);
+        npy.resize(128 + 4 * widths[0] * widths[1] * (g + 3));
     }
 
     uint32_t check() { return kan_check(widths.data(), widths.size(), g, lo, hi, &parameters, &carried); }
@@ -91,6 +92,16 @@ struct Network {
         return kan_image_unpack(bytes.data(), bytes.size(), widths.data(), widths.size(), model.data(), model.size(),
                                 &carried);
     }
+
+    uint32_t npy_write() {
+        return kan_npy_write(widths.data(), widths.size(), g, lo, hi, model.data(), model.size(), 0, npy.data(),
+                             npy.size(), &carried);
+    }
+
+    uint32_t npy_read() {
+        return kan_npy_read(widths.data(), widths.size(), g, lo, hi, model.data(), model.size(), 0, npy.data(),
+                            npy.size(), &carried);
+    }
 };
 
 struct Call {
@@ -110,6 +121,8 @@ constexpr Call calls[] = {
     {"image_write", &Network::image_write},
     {"image_read", &Network::image_read},
     {"image_unpack", &Network::image_unpack},
+    {"npy_write", &Network::npy_write},
+    {"npy_read", &Network::npy_read},
 };
 
 constexpr size_t words = 1 << 17; // 1 MiB
@@ -153,7 +166,7 @@ int main() {
     std::printf("\nPeak stack of a call in bytes\n\n| shape | g |");
     for (const Call &call : calls)
         std::printf(" %s |", call.name);
-    std::printf("\n|---|---|---|---|---|---|---|---|---|---|---|---|---|\n");
+    std::printf("\n|---|---|---|---|---|---|---|---|---|---|---|---|---|---|---|\n");
     for (Network network :
          {Network{{1, 1}, 5}, Network{{8, 16, 1}, 5}, Network{{8, 16, 1}, 256}, Network{{4, 8, 8, 1}, 64}}) {
         std::printf("| [");

@@ -58,6 +58,9 @@
  *   26  degree not 3
  *   27  image malformed
  *   28  the stated total of target values is 0 or above 16,777,216
+ *   29  NPY header or length malformed
+ *   30  NPY file of another type, order or shape
+ *   37  no such layer
  *
  * "Configuration" below stands for 1, 2, 3, 4 with the domain [-1, 1], layer by
  * layer 5 and 6, then 7, then 4 with the given domain, in this order.
@@ -76,10 +79,11 @@
  * Stack: every call fits in ESTIMATOR_STACK_BYTES, arguments and return
  * addresses included. The largest figures measured, with g++ and clang++ at -O2:
  * 3,088 bytes for kan_train and kan_train_step, 2,816 for kan_accumulate, 2,336
- * for kan_visits, 2,112 for kan_predict and kan_loss, 528 for the others. So on
- * a fibre of 4 KiB training leaves its caller 1,008 bytes, accumulating 1,280,
- * prediction 1,984. The first call needs no more than later ones: memset, all
- * that the archive needs of the C library, is bound when the program is loaded.
+ * for kan_visits, 2,112 for kan_predict and kan_loss, 592 for kan_npy_read, 528
+ * for the others. So on a fibre of 4 KiB training leaves its caller 1,008 bytes,
+ * accumulating 1,280, prediction 1,984. The first call needs no more than later
+ * ones: memset, all that the archive needs of the C library, is bound when the
+ * program is loaded.
  * If you put the archive into a shared object, link its callers with
  * -Wl,-z,now: else their own calls of it are bound late, on the fibre.
  *
@@ -107,14 +111,14 @@
 
 /* The version of this library. What is installed beside this header takes it from these three lines. */
 #define ESTIMATOR_VERSION_MAJOR 0
-#define ESTIMATOR_VERSION_MINOR 2
+#define ESTIMATOR_VERSION_MINOR 3
 #define ESTIMATOR_VERSION_PATCH 0
 
-/* "0.2.0" */
+/* "0.3.0" */
 #define ESTIMATOR_VERSION                                                       \
     ESTIMATOR_TEXT(ESTIMATOR_VERSION_MAJOR)                                     \
     "." ESTIMATOR_TEXT(ESTIMATOR_VERSION_MINOR) "." ESTIMATOR_TEXT(ESTIMATOR_VERSION_PATCH)
-/* For #if: 200 for 0.2.0, 10203 for 1.2.3. */
+/* For #if: 300 for 0.3.0, 10203 for 1.2.3. */
 #define ESTIMATOR_VERSION_NUMBER \
     (ESTIMATOR_VERSION_MAJOR * 10000 + ESTIMATOR_VERSION_MINOR * 100 + ESTIMATOR_VERSION_PATCH)
 #define ESTIMATOR_TEXT(number) ESTIMATOR_TEXT_OF(number)
@@ -332,6 +336,52 @@ uint32_t kan_image_read(const uint8_t *image, size_t image_len, size_t *interval
  */
 uint32_t kan_image_unpack(const uint8_t *image, size_t image_len, size_t *widths, size_t widths_len,
                           float *model, size_t model_len, size_t *carried);
+
+/*
+ * One layer's spline coefficients as a file in NumPy's NPY format: numpy.load
+ * makes of it an array of float32 with the shape (outputs, inputs, g + 3), in
+ * which [o, i, k] is coefficient k of the edge from input i to output o, and
+ * numpy.save writes one of numpy.ascontiguousarray(array, '<f4'). Layers are
+ * counted from 0: layer l has widths[l] inputs and widths[l + 1] outputs. Base
+ * weights and spline weights are not in the file.
+ *
+ * A file is the bytes 93 'N' 'U' 'M' 'P' 'Y' 01 00, two bytes that hold the
+ * length L of the header, low byte first, L bytes of header, and the
+ * coefficients as little-endian words of four bytes.
+ */
+
+/*
+ * Writes the coefficients of a layer. `file` has
+ * 128 + 4 * outputs * inputs * (g + 3) bytes. The header is
+ *   {'descr': '<f4', 'fortran_order': False, 'shape': (1, 1, 5), }
+ * with the layer's sizes, then spaces, and 0A as byte 127.
+ *
+ * Refusals: configuration, 8, 37, 10, 11. 7 carries the total.
+ * Memory: on success all of `file` is written; refused, it is unchanged.
+ */
+uint32_t kan_npy_write(const size_t *widths, size_t widths_len, size_t intervals, float lo, float hi,
+                       const float *model, size_t model_len, size_t layer, uint8_t *file, size_t file_len,
+                       size_t *carried);
+
+/*
+ * Takes the coefficients of a layer out of a file, whatever its bytes, each bit
+ * as it was written. The header may be another than kan_npy_write's, as long as
+ * it is a dictionary of the same kind: the three keys once each in any order,
+ * single or double quotes, any spaces between tokens but none before the first,
+ * a last comma or none, any number of spaces behind it, and 0A as its last byte.
+ * A string holds no backslash and no byte outside 20 to 7E; a size is written in
+ * digits without leading zeros.
+ *
+ * Refusals: configuration, 8, 37, 11 (model), 29 (header), 30 (type, order,
+ * shape), 29 (body's length), 11 (the file's numbers). 7 carries the total. All
+ * of the model must be finite, what is replaced too.
+ * Memory: on success the layer's outputs * inputs * (g + 3) coefficients in
+ * `model` are written, and nothing else there: no weights, no other layer.
+ * Refused, it is unchanged.
+ */
+uint32_t kan_npy_read(const size_t *widths, size_t widths_len, size_t intervals, float lo, float hi,
+                      float *model, size_t model_len, size_t layer, const uint8_t *file, size_t file_len,
+                      size_t *carried);
 
 #ifdef __cplusplus
 }

@@ -2,10 +2,10 @@
 //
 // Everything here is inline and only calls libestimator.a; what each call promises is in estimator.h. A refusal is a
 // value, never an exception, and -fno-exceptions is fine. The standard library may throw std::bad_alloc where memory is
-// allocated: in whatever makes or copies a Config, Model, Work or Gradients, in image(), visits(), message(), read_file
-// and write_file, and in train() and accumulate() when a Work is used so with a model of this size for the first time.
-// predict(), loss() and apply() are noexcept and allocate nothing; later calls of train() and accumulate() allocate
-// nothing either.
+// allocated: in whatever makes or copies a Config, Model, Work or Gradients, in image(), npy(), visits(), message(),
+// read_file and write_file, and in train() and accumulate() when a Work is used so with a model of this size for the
+// first time. predict(), loss(), apply() and take_npy() are noexcept and allocate nothing; later calls of train() and
+// accumulate() allocate nothing either.
 //
 //     using namespace estimator;
 //     Result<Model> model = Model::initialise({{3, 6, 1}, 8, 0.0f, 1.0f}, 42);
@@ -70,43 +70,62 @@ enum class Reason : std::uint32_t {
     image_degree = 26,
     image_malformed = 27,
     stated_total = 28,
+    npy_malformed = 29,
+    npy_type_or_shape = 30,
+    no_such_layer = 37,
 };
+
+namespace detail {
+
+struct Wording {
+    Reason reason;
+    const char *text;
+};
+
+// One for each reason; the numbers have gaps.
+inline constexpr Wording texts[] = {
+    {Reason::accepted, "accepted"},
+    {Reason::widths, "fewer than two widths, or a zero width"},
+    {Reason::width_product, "a product of neighbouring widths is 2^64 or more"},
+    {Reason::intervals, "grid intervals g is 0 or above 2^63 - 8"},
+    {Reason::domain, "the domain does not define a finite, representable uniform grid with lo below hi"},
+    {Reason::layer_parameters, "one layer's parameter count is 2^64 or more"},
+    {Reason::total_parameters, "the running total's parameter count is 2^64 or more"},
+    {Reason::model_too_large, "total above 250,000"},
+    {Reason::model_length, "model slice length is not P"},
+    {Reason::work_too_short, "work slice too short"},
+    {Reason::output_length, "output or map length wrong"},
+    {Reason::parameter_not_finite, "a parameter not finite"},
+    {Reason::row_counts_differ, "row counts differ"},
+    {Reason::no_rows, "no rows"},
+    {Reason::input_width, "input row of wrong width"},
+    {Reason::input_not_finite, "input not finite"},
+    {Reason::target_width, "target row of wrong width"},
+    {Reason::target_not_finite, "target not finite"},
+    {Reason::too_many_targets, "more than 16,777,216 target values"},
+    {Reason::learning_rate, "learning rate not finite or not above 0"},
+    {Reason::node_not_finite, "a node value not finite"},
+    {Reason::squared_error_not_finite, "squared error not finite"},
+    {Reason::error_sum_not_finite, "sum of squared errors not finite"},
+    {Reason::update_not_finite, "an updated parameter not finite"},
+    {Reason::image_too_long, "image longer than 8,388,608 bytes"},
+    {Reason::image_version, "image version not 1"},
+    {Reason::image_degree, "degree not 3"},
+    {Reason::image_malformed, "image malformed"},
+    {Reason::stated_total, "the stated total of target values is 0 or above 16,777,216"},
+    {Reason::npy_malformed, "NPY header or length malformed"},
+    {Reason::npy_type_or_shape, "NPY file of another type, order or shape"},
+    {Reason::no_such_layer, "no such layer"},
+};
+
+} // namespace detail
 
 // A reason in words.
 constexpr const char *words(Reason reason) noexcept {
-    constexpr const char *texts[] = {
-        "accepted",
-        "fewer than two widths, or a zero width",
-        "a product of neighbouring widths is 2^64 or more",
-        "grid intervals g is 0 or above 2^63 - 8",
-        "the domain does not define a finite, representable uniform grid with lo below hi",
-        "one layer's parameter count is 2^64 or more",
-        "the running total's parameter count is 2^64 or more",
-        "total above 250,000",
-        "model slice length is not P",
-        "work slice too short",
-        "output or map length wrong",
-        "a parameter not finite",
-        "row counts differ",
-        "no rows",
-        "input row of wrong width",
-        "input not finite",
-        "target row of wrong width",
-        "target not finite",
-        "more than 16,777,216 target values",
-        "learning rate not finite or not above 0",
-        "a node value not finite",
-        "squared error not finite",
-        "sum of squared errors not finite",
-        "an updated parameter not finite",
-        "image longer than 8,388,608 bytes",
-        "image version not 1",
-        "degree not 3",
-        "image malformed",
-        "the stated total of target values is 0 or above 16,777,216",
-    };
-    const auto number = static_cast<std::size_t>(reason);
-    return number < sizeof texts / sizeof *texts ? texts[number] : "a reason that this header does not know";
+    for (const detail::Wording &wording : detail::texts)
+        if (wording.reason == reason)
+            return wording.text;
+    return "a reason that this header does not know";
 }
 
 // A batch as a call reads it: its rows, and the widths of the model's inputs and outputs.
@@ -356,6 +375,29 @@ class Model {
         return outcome ? Result<std::vector<std::uint8_t>>(std::move(bytes)) : outcome;
     }
 
+    // One layer's spline coefficients as an NPY file, NumPy's format: float32 of the shape (outputs, inputs, intervals
+    // + 3). Layers are counted from 0, which reads the inputs. The weights are not in it.
+    Result<std::vector<std::uint8_t>> npy(std::size_t layer) const {
+        const ExactFloats exact;
+        std::vector<std::uint8_t> bytes(npy_size(layer));
+        Outcome outcome;
+        outcome.reason =
+            Reason{kan_npy_write(shape.widths.data(), shape.widths.size(), shape.intervals, shape.lo, shape.hi,
+                                 numbers.data(), numbers.size(), layer, bytes.data(), bytes.size(), &outcome.carried)};
+        return outcome ? Result<std::vector<std::uint8_t>>(std::move(bytes)) : outcome;
+    }
+
+    // Takes the layer's coefficients from such a file; its weights and all other layers stay. Refused, the model is as
+    // before.
+    Outcome take_npy(std::size_t layer, Bytes file) noexcept {
+        const ExactFloats exact;
+        Outcome outcome;
+        outcome.reason =
+            Reason{kan_npy_read(shape.widths.data(), shape.widths.size(), shape.intervals, shape.lo, shape.hi,
+                                numbers.data(), numbers.size(), layer, file.data(), file.size(), &outcome.carried)};
+        return outcome;
+    }
+
     const Config &config() const noexcept { return shape; }
     const Sizes &sizes() const noexcept { return counts; }
     std::size_t input_width() const noexcept { return shape.widths.front(); }
@@ -459,6 +501,13 @@ class Model {
 
   private:
     Model(Config config, const Sizes &sizes) : shape(std::move(config)), counts(sizes), numbers(sizes.parameters) {}
+
+    // The length of a layer's file; 0 for a layer that is not there, which the library refuses before it asks for one.
+    std::size_t npy_size(std::size_t layer) const noexcept {
+        const std::vector<std::size_t> &widths = shape.widths; // none after the model was moved away
+        const bool is_there = widths.size() > 1 && layer < widths.size() - 1;
+        return is_there ? 128 + 4 * widths[layer + 1] * widths[layer] * (shape.intervals + 3) : 0;
+    }
 
     // Prediction and visits name the row of these refusals; no other call does.
     static bool names_row(Reason reason) noexcept {
@@ -570,7 +619,7 @@ inline FileOutcome write_file(const char *path, Bytes bytes) {
 
 using FileBytes = Result<std::vector<std::uint8_t>, FileOutcome>;
 
-// All bytes of a file; of one that is longer than any image, enough for its refusal.
+// All bytes of a file; of one that is longer than any image, which no NPY file of a layer is, enough for its refusal.
 inline FileBytes read_file(const char *path) {
     const auto failed = [path] { return FileOutcome{detail::last_error(), std::string("could not read ") + path}; };
     const detail::File file(std::fopen(path, "rbe"));

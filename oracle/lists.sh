@@ -1,6 +1,6 @@
 #!/usr/bin/env bash
-# Makes the stored lists of answers anew: crates/vectors/data/oracle.txt (the leaves), and images.txt, visits.txt and split.txt
-# in crates/model_vectors/data
+# Makes the stored lists of answers anew: crates/vectors/data/oracle.txt (the leaves), and images.txt, visits.txt, split.txt and
+# npy.txt in crates/model_vectors/data
 set -euo pipefail
 cd "$(dirname "$0")/.."
 
@@ -20,7 +20,7 @@ oracle/run.sh lists >"$leaves"
 ) >>"$leaves"
 store "$leaves" crates/vectors/data/oracle.txt
 
-for list in images visits split; do
+for list in images visits split npy; do
     oracle/run.sh lists $list >"target/oracle/$list.txt"
     store "target/oracle/$list.txt" "crates/model_vectors/data/$list.txt"
 done

@@ -22,5 +22,6 @@ compare calls --rounds 5000
 compare training --rounds 2000
 compare chains --rounds 5000
 compare images --rounds 5000
+compare npy --rounds 20000
 compare visits --rounds 5000
 compare unmarked --rounds 3000

@@ -1,9 +1,9 @@
 #!/usr/bin/env bash
 # Builds the oracle and runs one of its programs:
 #   oracle/run.sh self-test
-#   oracle/run.sh lists [images | visits | split]
+#   oracle/run.sh lists [images | visits | split | npy]
 #   oracle/run.sh leaves [--every N] [--offset M] [--basis N]
-#   oracle/run.sh calls | training | chains | images | visits | unmarked [--rounds N] [--seed S] [--large] [--round R]
+#   oracle/run.sh calls | training | chains | images | npy | visits | unmarked [--rounds N] [--seed S] [--large] [--round R]
 #   oracle/run.sh bench .. (bench/run.sh makes what it needs)
 # KAN_RUST: folder of the ported Rust; ESTIMATOR_LIB: folder of the proved code's archives.
 # Status 3: something that is needed is not here and can't be installed.
@@ -67,8 +67,9 @@ case $program in
         need_calls kan_check kan_initialise kan_predict kan_loss kan_train_step kan_train kan_visits kan_accumulate kan_apply
         ;;
     images) need_calls kan_image_read ;;
+    npy) need_calls kan_npy_write kan_npy_read ;;
     bench) need_calls kan_train kan_accumulate kan_apply ;;
-    *) stop "name a program: self-test, lists, leaves, calls, training, chains, images, visits, unmarked or bench" 2 ;;
+    *) stop "name a program: self-test, lists, leaves, calls, training, chains, images, npy, visits, unmarked or bench" 2 ;;
 esac
 shift
 

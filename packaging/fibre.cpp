@@ -20,6 +20,12 @@ constexpr unsigned char paint = 0xa5;
 // out all basis values by recursion, which goes deepest.
 constexpr std::size_t widths[] = {3, 4, 1}, intervals = 1, parameters = (3 * 4 + 4 * 1) * (intervals + 5);
 constexpr std::size_t widest = 4, nodes = 3 + 4 + 1, rows = 2, image_size = 32 + 4 * 3 + 4 * parameters;
+constexpr std::size_t npy_size = 128 + 4 * (4 * 3) * (intervals + 3);
+
+// A file of the first layer, all its coefficients +0.0.
+constexpr char npy_file[npy_size] = "\x93NUMPY\x01\0v\0{'descr': '<f4', 'fortran_order': False, 'shape': (4, 3, 4), }"
+                                    "                                                       \n";
+static_assert(npy_file[127] == '\n', "the header ends where the coefficients begin");
 
 struct Domain {
     float lo, hi;
@@ -29,7 +35,7 @@ constexpr Domain domains[] = {{-1.0f, 1.0f}, {0.0f, 8e37f}};
 Domain domain;
 float model[parameters], inputs[rows * 3], targets[rows], outputs[rows], first[widest], second[widest];
 float gradients[parameters], work[2 * nodes], found;
-std::uint8_t map[parameters], image[image_size];
+std::uint8_t map[parameters], image[image_size], npy[npy_size];
 std::size_t carried, done, count, g, unpacked[3];
 float lo, hi;
 
@@ -70,6 +76,13 @@ std::uint32_t image_write() {
 }
 std::uint32_t image_read() { return kan_image_read(image, image_size, &g, &lo, &hi, &count, &done, &carried); }
 std::uint32_t image_unpack() { return kan_image_unpack(image, image_size, unpacked, 3, model, parameters, &carried); }
+std::uint32_t npy_write() {
+    return kan_npy_write(widths, 3, intervals, domain.lo, domain.hi, model, parameters, 0, npy, npy_size, &carried);
+}
+std::uint32_t npy_read() {
+    return kan_npy_read(widths, 3, intervals, domain.lo, domain.hi, model, parameters, 0,
+                        reinterpret_cast<const std::uint8_t *>(npy_file), npy_size, &carried);
+}
 
 // Through the C++ header. The model and its buffers are made outside the fibre.
 estimator::Model *cpp_model;
@@ -79,6 +92,9 @@ estimator::Gradients *cpp_gradients;
 std::uint32_t cpp_predict() { return cpp_model->predict(inputs, outputs, *cpp_work).number(); }
 std::uint32_t cpp_loss() { return cpp_model->loss(inputs, targets, *cpp_work).outcome().number(); }
 std::uint32_t cpp_apply() { return cpp_model->apply(*cpp_gradients, 0.01f).number(); }
+std::uint32_t cpp_take_npy() {
+    return cpp_model->take_npy(0, {reinterpret_cast<const std::uint8_t *>(npy_file), npy_size}).number();
+}
 
 struct Call {
     const char *name;
@@ -98,11 +114,14 @@ constexpr Call c_calls[] = {
     {"kan_image_write", image_write, 528},
     {"kan_image_read", image_read, 528},
     {"kan_image_unpack", image_unpack, 528},
+    {"kan_npy_write", npy_write, 528},
+    {"kan_npy_read", npy_read, 592},
 };
 constexpr Call cpp_calls[] = {
     {"predict", cpp_predict, fibre_size},
     {"loss", cpp_loss, fibre_size},
     {"apply", cpp_apply, fibre_size},
+    {"take_npy", cpp_take_npy, fibre_size},
 };
 
 std::uint32_t (*call_on_fibre)();

@@ -296,12 +296,104 @@ void images() {
     expect_refused(model.image().outcome(), 11, 0, "refused 11: a parameter not finite");
 }
 
+using ByteList = std::vector<std::uint8_t>;
+
+// An NPY file of [1, 1] with two intervals: this header, and its five numbers.
+ByteList npy_file(const std::string &dictionary, std::array<float, 5> numbers) {
+    const std::string text = dictionary + "\n";
+    ByteList file{0x93, 'N', 'U', 'M', 'P', 'Y', 1, 0};
+    file.push_back(static_cast<std::uint8_t>(text.size()));
+    file.push_back(0);
+    file.insert(file.end(), text.begin(), text.end());
+    file.resize(file.size() + sizeof numbers);
+    std::memcpy(file.data() + file.size() - sizeof numbers, numbers.data(), sizeof numbers);
+    return file;
+}
+
+const std::string plain_dictionary = "{'descr': '<f4', 'fortran_order': False, 'shape': (1, 1, 5), }";
+
+void npys() {
+    Model model = edge(0.5f);
+    const std::string padded = plain_dictionary + std::string(55, ' ');
+    expect(model.npy(0).value() == npy_file(padded, {}), "the settled file of 148 bytes");
+    const std::array<float, 7> taken{0.5f, 1, 1.5f, -0.0f, 3, 4, 1e-40f};
+    const ByteList file =
+        npy_file(R"({"shape":(1,1,5),"descr":"<f4","fortran_order":False})", {1.5f, -0.0f, 3, 4, 1e-40f});
+    expect(static_cast<bool>(model.take_npy(0, file)), "another header of the same kind");
+    expect(bits(model.parameters()) == bits(taken), "coefficients are taken bit by bit, and the weights stay");
+    Model copy = edge(0.5f);
+    expect(copy.take_npy(0, model.npy(0).value()) && bits(copy.parameters()) == bits(taken), "written and taken");
+}
+
+// Two layers of [2, 3, 1]: each file has its own layer's coefficients, and changes no others.
+void npy_layers() {
+    const Model model = Model::initialise({{2, 3, 1}, 3}, 7).value();
+    const Bits numbers = bits(model.parameters());
+    const ByteList first = model.npy(0).value(), second = model.npy(1).value();
+    expect(first.size() == 128 + 4 * 36 && second.size() == 128 + 4 * 18, "lengths of both layers");
+    Model zero = model;
+    for (float &parameter : zero.parameters())
+        parameter = 0.0f;
+    expect(static_cast<bool>(zero.take_npy(1, second)), "the second layer");
+    Bits expected(numbers.size());
+    for (std::size_t edge = 6; edge < 9; ++edge)
+        for (std::size_t k = 2; k < 8; ++k)
+            expected[8 * edge + k] = numbers[8 * edge + k];
+    expect(bits(zero.parameters()) == expected, "its coefficients alone are taken");
+    expect(zero.take_npy(0, first) && zero.npy(0).value() == first && zero.npy(1).value() == second, "and the first");
+    expect_refused(zero.take_npy(0, second), 30, 0, "refused 30: NPY file of another type, order or shape");
+    expect(zero.npy(0).value() == first, "refused, the model is as before");
+}
+
+void refused_npys() {
+    Model model = edge(0.5f);
+    const Bits before = bits(model.parameters());
+    const char *malformed = "refused 29: NPY header or length malformed";
+    const char *other = "refused 30: NPY file of another type, order or shape";
+    const auto refused = [&](std::size_t layer, const ByteList &file, unsigned number, const char *message) {
+        expect_refused(model.take_npy(layer, file), number, 0, message);
+        expect(bits(model.parameters()) == before, "refused, the model is as before");
+    };
+    const ByteList good = npy_file(plain_dictionary, {1, 2, 3, 4, 5});
+    refused(0, {}, 29, malformed);
+    refused(0, npy_file("{'descr': '<f4', 'fortran_order': False, 'shape': (1, 1, 05), }", {}), 29, malformed);
+    refused(0, {good.begin(), good.end() - 1}, 29, malformed);
+    refused(0, npy_file("{'descr': '>f4', 'fortran_order': False, 'shape': (1, 1, 5), }", {}), 30, other);
+    refused(0, npy_file("{'descr': '<f4', 'fortran_order': True, 'shape': (1, 1, 5), }", {}), 30, other);
+    refused(0, npy_file(plain_dictionary, {0, 0, 0, 0, infinite}), 11, "refused 11: a parameter not finite");
+    refused(1, {}, 37, "refused 37: no such layer");
+    const std::size_t largest = std::numeric_limits<std::size_t>::max();
+    for (const std::size_t layer : {std::size_t{1}, largest - 1, largest}) {
+        expect_refused(model.take_npy(layer, good), 37, 0, "refused 37: no such layer");
+        expect_refused(model.npy(layer).outcome(), 37, 0, "refused 37: no such layer");
+    }
+    model.parameters().data()[3] = NAN;
+    expect_refused(model.npy(0).outcome(), 11, 0, "refused 11: a parameter not finite");
+    expect_refused(model.take_npy(0, good), 11, 0, "refused 11: a parameter not finite");
+    const Model taken = std::move(model); // what is left has no widths
+    expect_refused(model.npy(0).outcome(), 1, 0, "refused 1: fewer than two widths, or a zero width");
+}
+
+// Numbers of the table have their words, and those between and beyond them none.
+void reasons() {
+    static_assert(words(Reason::no_such_layer)[0] == 'n', "words at compile time");
+    const std::string unknown = "a reason that this header does not know";
+    for (const std::uint32_t number : {31u, 36u, 38u, 4294967295u})
+        expect(words(Reason{number}) == unknown, "no words for " + std::to_string(number));
+    for (std::uint32_t number = 0; number <= 30; ++number)
+        expect(words(Reason{number}) != unknown, "words for " + std::to_string(number));
+    Outcome outcome;
+    outcome.reason = Reason{33};
+    expect(outcome.message() == "refused 33: " + unknown, "a number that the header does not know");
+}
+
 void allocation() {
     Model model = Model::initialise({{3, 4, 1}, 5}, 1).value();
     Work work(model);
     const Numbers inputs(30, 0.25f), targets(10, 0.5f);
     Numbers outputs(10);
     Gradients gradients(model);
+    const ByteList file = model.npy(0).value();
     expect(static_cast<bool>(model.train(inputs, targets, 1, 0.1f, work)), "the first step");
     const unsigned long before = allocations;
     const Outcome predicted = model.predict(inputs, outputs, work);
@@ -310,10 +402,13 @@ void allocation() {
     const Outcome gathered = model.accumulate(inputs, targets, 10, gradients, work);
     const Outcome applied = model.apply(gradients, 0.1f);
     gradients.clear();
+    const Outcome taken = model.take_npy(0, file);
     const unsigned long after = allocations;
-    expect(predicted && loss && training && gathered && applied, "predict, loss, train, accumulate and apply");
-    expect(after == before, "predict, loss, train, accumulate and apply allocate nothing");
+    expect(predicted && loss && training && gathered && applied && taken,
+           "predict, loss, train, accumulate, apply and take_npy");
+    expect(after == before, "predict, loss, train, accumulate, apply and take_npy allocate nothing");
     static_assert(noexcept(model.apply(gradients, 0.1f)) &&noexcept(gradients.clear()), "nor do they throw");
+    static_assert(noexcept(model.take_npy(0, file)), "nor does this one");
 }
 
 void threads() {
@@ -389,7 +484,8 @@ std::vector<std::uint8_t> all_calls(Outcome &overflow) {
     std::vector<std::uint8_t> bytes;
     const bool accepted = model.train(inputs, targets, 5, 0.1f, work) && model.predict(inputs, outputs, work) &&
                           model.loss(inputs, targets, work) && model.visits(inputs, work) &&
-                          model.accumulate(inputs, targets, 10, gradients, work) && model.apply(gradients, 0.1f);
+                          model.accumulate(inputs, targets, 10, gradients, work) && model.apply(gradients, 0.1f) &&
+                          model.take_npy(1, model.npy(1).value());
     overflow = steep.predict(Numbers{100}, {outputs.data(), 1}, work);
     return accepted ? Model::from_image(model.image().value()).value().image().value() : bytes;
 }
@@ -438,8 +534,6 @@ struct Folder {
 
     std::filesystem::path path;
 };
-
-using ByteList = std::vector<std::uint8_t>;
 
 void files() {
     const Folder folder;
@@ -549,6 +643,10 @@ int main(int count, char **) {
     maps();
     edits();
     images();
+    npys();
+    npy_layers();
+    refused_npys();
+    reasons();
     allocation();
     threads();
     building_threads();

@@ -11,7 +11,7 @@
 
 namespace reader {
 
-using Whole = unsigned __int128; // every sum and product below fits
+__extension__ typedef unsigned __int128 Whole; // every sum and product below fits
 
 struct Answer {
     uint32_t number = 0; // the refusal, 0 where there is none

@@ -1,6 +1,6 @@
 #!/usr/bin/env bash
 # A fact that several files state has one home. This fails, naming the file and the fact, where another file says otherwise:
-#   the wording of the refusals   home docs/RULES.md R3.1; estimator.h (the table of its first comment), estimator.hpp (`words`)
+#   the wording of the refusals   home docs/RULES.md R3.1; estimator.h (the table of its first comment), estimator.hpp (`texts`)
 #   the orders of checks          home docs/RULES.md R3.4; docs/CALLS.md (third column), estimator.h ("Refusals: .." up to the first
 #                                 full stop or "where"), and in each of the three "Configuration" below stands for .., in this order.
 #   which call a C function is    home docs/RULES.md R3.4; docs/CALLS.md ("C linkage")
@@ -43,9 +43,14 @@ same() { # WHAT FILE
 joined() { sed 's/^ \*\/*//' "$1" | tr -s ' \n' '  '; }
 
 # ---- refusals
+# Numbers may be left out, but must rise.
+rising() { # FILE NUMBERS
+    sort -nuC <<<"$2" || say "$1: the refusals do not rise: $(xargs <<<"$2")"
+}
+
 refusals=$(table $rules '^\*\*R3\.1\*\*' '^\*\*R3\.2\*\*' | awk -F '\t' '$1 + 0 > 0 { print $1 "\t" $2 }')
-[ "$(cut -f 1 <<<"$refusals")" = "$(seq "$(wc -l <<<"$refusals")")" ] ||
-    say "$rules: R3.1 does not count from 1 on: $(cut -f 1 <<<"$refusals" | xargs)"
+[ -n "$refusals" ] || say "$rules: R3.1 has no table of refusals"
+rising $rules "$(cut -f 1 <<<"$refusals")"
 
 # " *   14  text", and what follows further in; what a refusal carries is told apart
 in_c=$(awk '
@@ -54,19 +59,26 @@ in_c=$(awk '
     text != "" && /^ \*        *[^ ]/ { sub(/^ \* +/, ""); text = text " " $0; next }
     text != "" { print text; text = "" }' $c)
 same refusal $c "$refusals" "$(sed 's/; carries .*//' <<<"$in_c")"
+rising $c "$(cut -f 1 <<<"$in_c")"
 
 # "; carries .." stands there for a number that carries something in every call that can
 carrying=$(table $rules '^\*\*R3\.1\*\*' '^\*\*R3\.2\*\*' | awk -F '\t' '$1 + 0 > 0 && $3 != "" && $3 !~ /, in / { print $1 }' | xargs)
 carrying_in_c=$(sed -n 's/\t.*; carries .*//p' <<<"$in_c" | xargs)
 [ "$carrying" = "$carrying_in_c" ] || say "$c: refusals $carrying_in_c say what they carry, and in $rules $carrying do"
 
-# the strings of `words`, in order from 0, "accepted"; a string may be broken over lines
-in_cpp=$(sed -n '/texts\[\] = {/,/};/p' $cpp | sed '1d;$d' | tr '\n' ' ' | sed 's/" *"//g' | grep -o '"[^"]*"' | tr -d '"' |
-    awk 'NR > 1 { print NR - 1 "\t" $0 }')
+# "name = 14," in Reason, and {Reason::name, "text"} among the texts of `words`, where a string may be broken over lines; 0 is
+# "accepted", and a name that Reason does not have stands for itself
+reasons=$(sed -n '/^enum class Reason/,/^};/p' $cpp | sed -n 's/^ *\([a-z0-9_]*\) = \([0-9]*\),$/\1\t\2/p')
+worded=$(sed -n '/ texts\[\] = {/,/^};/p' $cpp | tr '\n' ' ' | sed 's/" *"//g; s/}, */},\n/g' |
+    sed -n 's/.*{Reason::\([a-z0-9_]*\), *"\([^"]*\)"},$/\1\t\2/p')
+in_cpp=$(awk -F '\t' '
+    NR == FNR { number[$1] = $2; next }
+    { k = $1 in number ? number[$1] : $1; if (k != 0) print k "\t" $2 }' <(echo "$reasons") <(echo "$worded"))
 same refusal $cpp "$refusals" "$in_cpp"
-numbers=$(sed -n '/^enum class Reason/,/^};/p' $cpp | sed -n 's/.* = \([0-9]*\),$/\1/p')
-[ "$numbers" = "$(seq 0 "$(wc -l <<<"$refusals")")" ] ||
-    say "$cpp: Reason has the numbers $(xargs <<<"$numbers"), and $rules those from 1 to $(wc -l <<<"$refusals")"
+rising $cpp "$(cut -f 1 <<<"$in_cpp")"
+numbers=$(cut -f 2 <<<"$reasons" | xargs)
+stated=$(cut -f 1 <<<"$refusals" | xargs)
+[ "$numbers" = "0 $stated" ] || say "$cpp: Reason has the numbers $numbers, and $rules $stated"
 
 # ---- orders
 orders=$(table $rules '^\*\*R3\.4\*\*' '^\*\*R3\.5\*\*' | sed 1d)

@@ -5,6 +5,7 @@ use crate::calls::{bits, Call, Kind};
 use crate::compared::Compared;
 use crate::image_calls::{self, ImageCall};
 use crate::lent::{Cell, Lent};
+use crate::npy_calls::{self, NpyCall};
 use crate::ported::Grid;
 
 /// A call that the stored lists have a form for; more than one line where more than one proved call takes it.
@@ -139,5 +140,20 @@ impl ImageCall {
         let lent = [length(&self.widths), length(&self.model)].concat();
         let left = [bits(&read.widths), bits(&read.model)].concat();
         line('Y', &[list(&self.image), lent, answer(read), left])
+    }
+}
+
+impl Stored for NpyCall {
+    fn lines(&self, read: &NpyCall) -> Vec<String> {
+        let network = [configuration(&self.widths, self.grid), list(&self.model)].concat();
+        let layer = vec![self.layer as u64];
+        let (tag, file) = match self.kind {
+            npy_calls::Kind::Write => ('N', length(&self.file)),
+            npy_calls::Kind::Read => ('R', list(&self.file)),
+        };
+        vec![line(
+            tag,
+            &[network, layer, file, answer(read), read.written()],
+        )]
     }
 }

@@ -7,8 +7,8 @@ use std::fmt::Display;
 /// A line of the table: a number of refusal, 0 for accepted calls, or one of those below.
 pub type Line = usize;
 
-/// The refusals of R3.1, and accepted calls.
-const NUMBERS: usize = 29;
+/// Up to the largest refusal of R3.1, 37, and accepted calls; some numbers between are none.
+const NUMBERS: usize = 38;
 /// 4 with the domain [-1, 1].
 pub const DEFAULT_4: Line = NUMBERS;
 /// 20 and 23 after at least one step of the same call.

@@ -2,6 +2,7 @@
 
 pub mod chains;
 mod images;
+pub mod npy;
 mod training;
 pub mod unmarked;
 pub mod visits;

@@ -18,6 +18,7 @@ pub mod kept;
 pub mod lent;
 pub mod models;
 pub mod nans;
+pub mod npy_calls;
 pub mod outcomes;
 pub mod ported;
 pub mod program;

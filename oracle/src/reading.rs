@@ -3,6 +3,7 @@
 //! rules of lengths and of memory, which it does not know, stand here as the rules have them.
 
 pub mod images;
+pub mod npy;
 pub mod split;
 pub mod training;
 pub mod visits;

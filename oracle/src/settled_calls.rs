@@ -1,6 +1,7 @@
 //! Chosen calls with the answers that are settled for them: number, what is carried, and the numbers written.
 
 pub mod images;
+pub mod npy;
 pub mod split;
 pub mod training;
 pub mod visits;

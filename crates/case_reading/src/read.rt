@@ -26,9 +26,9 @@ pub struct Floats {
     pub next: Cursor,
 }
 
-// N b0 .. b(N-1)
+// N b0 .. b(N-1). There is room for as many as a line has words: a file has more bytes than its model has numbers.
 pub struct Bytes {
-    pub values: [u8; 128],
+    pub values: [u8; 512],
     pub count: usize,
     pub next: Cursor,
 }
@@ -105,9 +105,9 @@ pub fn floats_here(words: &[u64], cursor: Cursor) -> Floats
 pub fn bytes_here(words: &[u64], cursor: Cursor) -> Bytes
     ensures { λ r. ⌜ r .count ≤ length (r .values) ⌝ }
 {
-    let length = length_here(words, cursor, 128);
+    let length = length_here(words, cursor, 512);
     let count = length.count;
-    let mut values = [0u8; 128];
+    let mut values = [0u8; 512];
     let mut next = length.next;
     let mut i = 0;
     while i < count {

@@ -340,7 +340,7 @@ pub extern "C" fn kan_npy_write(
         NpyWritten (now (widths .entry)) (gridOf intervals lo hi) (now (model .entry)) layer (now (file .entry)) o
         (now (file .exit))) ⌝ }
 {
-    let outcome = npy_writing::write(widths, Grid { intervals, lo, hi }, model, layer, file);
+    let outcome = npy_writing::write_npy(widths, Grid { intervals, lo, hi }, model, layer, file);
     tell(outcome, carried)
 }
 
@@ -359,6 +359,6 @@ pub extern "C" fn kan_npy_read(
         NpyRead (now (widths .entry)) (gridOf intervals lo hi) (now (model .entry)) layer (now (file .entry)) o
         (now (model .exit))) ⌝ }
 {
-    let outcome = npy_reading::read(widths, Grid { intervals, lo, hi }, model, layer, file);
+    let outcome = npy_reading::read_npy(widths, Grid { intervals, lo, hi }, model, layer, file);
     tell(outcome, carried)
 }

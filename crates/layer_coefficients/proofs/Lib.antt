@@ -1,3 +1,4 @@
 pub mod Edges
 pub mod Turns
 pub mod Layers
+pub mod Answers

@@ -4,4 +4,5 @@ pub fn agrees(tag: u8, words: &[u64]) -> bool {
         | image_cases::agrees(tag, words)
         | visit_cases::agrees(tag, words)
         | split_cases::agrees(tag, words)
+        | npy_cases::agrees(tag, words)
 }

@@ -1,6 +1,6 @@
-// Program: runs every case of four lists, the settled examples of training, of images, of the visit map and of training in
-// two calls, against the proved crates, and prints for each list how many cases of each tag agree. Its file `stdout` says
-// that all do.
+// Program: runs every case of five lists, the settled examples of training, of images, of the visit map, of training in two
+// calls and of NPY files, against the proved crates, and prints for each list how many cases of each tag agree. Its file
+// `stdout` says that all do.
 mod cases;
 
 use replay::Line;
@@ -74,4 +74,5 @@ fn main() {
     run_file(b"images", b"images.txt");
     run_file(b"visits", b"visits.txt");
     run_file(b"split", b"split.txt");
+    run_file(b"npy", b"npy.txt");
 }

@@ -2,8 +2,8 @@
 -- that it allows coincide. Assumes nothing.
 use mathlib.Core.Path.{sym, _∙_}
 use Rattle.floats.proofs.Determined.{Determined}
-use Rattle.npy_reading.proofs.read as read
-use Rattle.npy_reading.proofs.read.Reads as read-reads
+use Rattle.npy_reading.proofs.read_npy as read
+use Rattle.npy_reading.proofs.read_npy.Reads as read-reads
 
 -- the answer and the model
 pub npy-read-determined : Determined read.ended read-reads.Post

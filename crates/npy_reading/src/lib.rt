@@ -92,7 +92,13 @@ fn read_sound(widths: &[usize], grid: Grid, model: &mut [f32], layer: usize, fil
 }
 
 // Refused in the order configuration, 8, 37, 11, and then as the file is; the model is then as it was.
-pub fn read(widths: &[usize], grid: Grid, model: &mut [f32], layer: usize, file: &[u8]) -> Outcome
+pub fn read_npy(
+    widths: &[usize],
+    grid: Grid,
+    model: &mut [f32],
+    layer: usize,
+    file: &[u8],
+) -> Outcome
     ensures { λ r. ⌜ NpyRead (now (widths .entry)) grid (now (model .entry)) layer (now (file .entry)) r
         (now (model .exit)) ⌝ }
 {

@@ -2,8 +2,8 @@
 -- that it allows coincide. Assumes nothing.
 use mathlib.Core.Path.{sym, _∙_}
 use Rattle.floats.proofs.Determined.{Determined}
-use Rattle.npy_writing.proofs.write as write
-use Rattle.npy_writing.proofs.write.Reads as write-reads
+use Rattle.npy_writing.proofs.write_npy as write
+use Rattle.npy_writing.proofs.write_npy.Reads as write-reads
 
 -- the answer and the file
 pub npy-write-determined : Determined write.ended write-reads.Post

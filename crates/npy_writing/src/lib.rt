@@ -48,7 +48,13 @@ fn write_sound(widths: &[usize], grid: Grid, model: &[f32], layer: usize, file: 
 }
 
 // Refused in the order configuration, 8, 37, 10, 11, and then nothing is written.
-pub fn write(widths: &[usize], grid: Grid, model: &[f32], layer: usize, file: &mut [u8]) -> Outcome
+pub fn write_npy(
+    widths: &[usize],
+    grid: Grid,
+    model: &[f32],
+    layer: usize,
+    file: &mut [u8],
+) -> Outcome
     ensures { λ r. ⌜ NpyWritten (now (widths .entry)) grid (now (model .entry)) layer (now (file .entry)) r
         (now (file .exit)) ⌝ }
 {

@@ -1,5 +1,5 @@
 //! Writes a stored list of answers to standard output: that of the leaves, or, where it is named, that of the calls on
-//! `images`, of the visit map (`visits`) or of training in two calls (`split`).
+//! `images`, of the visit map (`visits`), of training in two calls (`split`) or on NPY files (`npy`).
 
 use kan_oracle::bits::hex;
 use kan_oracle::cases::Stored;
@@ -10,6 +10,7 @@ use kan_oracle::models::demand_exact;
 use kan_oracle::ported::{demand_e, root, silu, silu_derivative, Grid};
 use kan_oracle::settled::Chosen;
 use kan_oracle::settled_calls::images::stored_images;
+use kan_oracle::settled_calls::npy::stored_npy;
 use kan_oracle::settled_calls::split::stored_split;
 use kan_oracle::settled_calls::visits::stored_visits;
 use std::process::ExitCode;
@@ -66,6 +67,17 @@ const SPLIT_HEADER: &str = "\
 # Z: [1, 1], g 2, [-1, 1], weights 0 and 1, coefficients 0. A21: [2, 1], g 2, [-1, 1], from seed 7.
 # Of D76 the oracle alone meets 2^24 + 1 rows, and D74, which leaves NaN.";
 
+const NPY_HEADER: &str = "\
+# Settled cases of the calls on a layer's NPY file, with all that the calls leave in what they may write. Made by
+# `oracle/lists.sh`: the answers are those of docs/RULES.md (D106 to D111 name cases), held to the oracle's own reader and writer.
+# A line is a tag and lower-case hexadecimal words; f32 numbers are their bits. A configuration is K w0 .. w(K-1) g lo hi. A list
+# is its length and then its numbers; a file that is read is a list of bytes. A call that is accepted has number 0.
+# N configuration model layer L number carried file    the writer; the L bytes of the file are 55 before
+# R configuration model layer file number carried model    the reader; the model before, a list, and, as many numbers, after
+# Z: [1, 1], g 2, [-1, 1], weights 0 and 1, coefficients 0.    S: Z with coefficients 0, 0.25, 0.5, 0.125, 0.
+# INF: S with the last coefficient infinite. Files are read into S but where another model is named.
+# D108's padding of 65,000 spaces is met by the oracle alone.";
+
 fn main() -> ExitCode {
     demand_e();
     match std::env::args().nth(1).as_deref() {
@@ -73,8 +85,9 @@ fn main() -> ExitCode {
         Some("images") => list_calls(IMAGES_HEADER, stored_images()),
         Some("visits") => list_calls(VISITS_HEADER, stored_visits()),
         Some("split") => list_calls(SPLIT_HEADER, stored_split()),
+        Some("npy") => list_calls(NPY_HEADER, stored_npy()),
         Some(name) => {
-            eprintln!("lists are named images, visits and split, and not {name}");
+            eprintln!("lists are named images, visits, split and npy, and not {name}");
             return ExitCode::from(2);
         }
     }

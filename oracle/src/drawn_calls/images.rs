@@ -71,7 +71,7 @@ impl Maker {
     }
 
     /// Mostly one whose grid is accepted, so that the checks behind it are met.
-    fn sound_image_config(&mut self) -> Configuration {
+    pub(super) fn sound_image_config(&mut self) -> Configuration {
         loop {
             let sound = self.sound();
             if sound.grid.is_accepted() || self.once_in(20) {
@@ -120,7 +120,7 @@ impl Maker {
     }
 
     /// The first byte lies anywhere in a word.
-    fn lend_image(&mut self, bytes: &[u8]) -> Lent<u8> {
+    pub(super) fn lend_image(&mut self, bytes: &[u8]) -> Lent<u8> {
         if bytes.is_empty() {
             return self.lend(bytes);
         }
@@ -292,7 +292,7 @@ impl Maker {
         }
     }
 
-    fn any_byte(&mut self, bytes: &mut [u8]) {
+    pub(super) fn any_byte(&mut self, bytes: &mut [u8]) {
         if !bytes.is_empty() {
             let place = self.whole(0, bytes.len() - 1);
             bytes[place] = self.draws.word() as u8;

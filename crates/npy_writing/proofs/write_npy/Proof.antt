@@ -1,12 +1,13 @@
--- `npy_reading::read` meets its contract: the checks up to 8, and then the rest. Assumes nothing.
+-- `npy_writing::write_npy` meets its contract: the checks up to 8, and then the bytes. Assumes nothing.
 use mathlib.Core.Path.{_≡_, sym, _∙_}
 use lib.ListN.{length}
 use Rattle.admission.specs.Admission.{upTo8}
 use Rattle.layer_coefficients.proofs.Layers.{passed, ready}
-use Rattle.npy_reading.proofs.Calls.{refused-to-8, done, stopped}
+use Rattle.layer_coefficients.proofs.Answers.{refused-to-8, done, stopped}
+use Rattle.npy_writing.proofs.Calls.{told}
 use borrow.Author.Needs.{needs}
-use Rattle.npy_reading.proofs.read.Statement.{statement}
-use Rattle.npy_reading.proofs.read.Tie as tie
+use Rattle.npy_writing.proofs.write_npy.Statement.{statement}
+use Rattle.npy_writing.proofs.write_npy.Tie as tie
 
 -- ---- from place to place: only these lines know how many places lie between
 abbrev entry : tie.After-check-model → tie.Start
@@ -15,17 +16,18 @@ entry c = c .before .before .before .before
 abbrev checked : tie.After-enum-told → tie.After-check-model
 checked c = c .before .before
 
-abbrev allowed : tie.After-read-sound → tie.After-enum-told
+abbrev allowed : tie.After-write-sound → tie.After-enum-told
 allowed c = c .before .before
 
-abbrev taken : tie.After-slice-known2 → tie.After-read-sound
-taken c = c .before .before
+abbrev written : tie.After-slice-known2 → tie.After-write-sound
+written c = c .before .before
 
 -- ---- past the checks up to 8
 past : (c : tie.After-enum-told)
     → let a = entry (checked c) .args in upTo8 (a .widths .now) (a .grid) (length (a .model .now)) ≡ 0
 past c = passed _ _ _ _ (sym (checked c .check-model .ensures) ∙ c .enum-told .given .1)
 
+-- ---- the needs
 check-model-requires : tie.Need-check-model-requires
 check-model-requires c κs = search needs
 
@@ -35,38 +37,41 @@ enum-known-checked c = search needs
 enum-told : tie.Need-enum-told
 enum-told c = search needs
 
-read-sound-requires : tie.Need-read-sound-requires
-read-sound-requires c κs = ready _ _ _ (past (c .before))
+write-sound-requires : tie.Need-write-sound-requires
+write-sound-requires c κs = ready _ _ _ (past (c .before))
 
 same-length : tie.Need-same-length
 same-length c = search needs
 
 returns : tie.Need-returns
 returns c =
-    let at = taken (c .before) in
-    done _ _ _ _ _ (past (allowed at)) _ _ (at .read-sound .ensures) (c .if1 .taken)
+    let at = written (c .before) in
+    let d = at .write-sound .ensures in
+    told _ _ _ _ _ (done _ _ _ _ _ _ _ (past (allowed at)) _ _ (d .refusal) (d .file) (c .if1 .taken))
 
 returns-2 : tie.Need-returns-2
 returns-2 c =
     let at = c .before in
-    refused-to-8 _ _ _ _ _ _ (sym (at .before .before .check-model .ensures) ∙ at .checked .given .1)
+    told _ _ _ _ _
+    (refused-to-8 _ _ _ _ _ _ _ _ (sym (at .before .before .check-model .ensures) ∙ at .checked .given .1))
 
 same-length-2 : tie.Need-same-length-2
 same-length-2 c = search needs
 
 returns-3 : tie.Need-returns-3
 returns-3 c =
-    let at = taken (c .before) in
-    stopped _ _ _ _ _ (past (allowed at)) _ _ (at .read-sound .ensures) (c .if1 .left)
+    let at = written (c .before) in
+    let d = at .write-sound .ensures in
+    told _ _ _ _ _ (stopped _ _ _ _ _ _ _ (past (allowed at)) _ _ (d .refusal) (d .file) (c .if1 .left))
 
-pub read-spec : {M : Type 1} → statement M
-read-spec =
+pub write-npy-spec : {M : Type 1} → statement M
+write-npy-spec =
     tie.close
     (tie.spec
     check-model-requires
     enum-known-checked
     enum-told
-    read-sound-requires
+    write-sound-requires
     same-length
     returns
     returns-2

@@ -10,7 +10,7 @@ use borrow.Author.Tests.{ltb-true, ltb-false}
 use Rattle.text.specs.Text.{decimalTo, decimalOf}
 use Rattle.text.proofs.Decimals.{two-digits, digit-less}
 use Rattle.npy_header.specs.File.{magic}
-use Rattle.npy_front.specs.Front.{opening, between, closing, dictionaryText, dataAt, padded, headerBytes}
+use Rattle.npy_front.specs.Front.{opening, separator, closing, dictionaryText, dataAt, padded, headerBytes}
 
 -- ---- digits put before a text: the last one, or one and more before it
 step : (P : List ℕ → Type 0) (k n : ℕ) (t : List ℕ) → (n < 10 → P ((48 + n % 10) ∷ t))
@@ -58,7 +58,7 @@ module _ (a b c : ℕ) where
 
   text-length : length (dictionaryText a b c)
       ≡ 59 + (length (decimalOf a) + length (decimalOf b) + length (decimalOf c))
-  unfolding dictionaryText opening between closing
+  unfolding dictionaryText opening separator closing
   text-length = simp length-append (omega arith)
 
   pub fits : a < 1000000 → b < 1000000 → c < 1000000 → Fits

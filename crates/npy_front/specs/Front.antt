@@ -13,15 +13,15 @@ opening =
     ∷ 70 ∷ 97 ∷ 108 ∷ 115 ∷ 101 ∷ 44 ∷ 32 ∷ 39 ∷ 115 ∷ 104 ∷ 97 ∷ 112 ∷ 101 ∷ 39 ∷ 58 ∷ 32 ∷ 40 ∷ []
 
 -- R18.2: a comma and a space between two numbers, and what closes it: ), }
-unfoldable pub between : List ℕ
-between = 44 ∷ 32 ∷ []
+unfoldable pub separator : List ℕ
+separator = 44 ∷ 32 ∷ []
 
 unfoldable pub closing : List ℕ
 closing = 41 ∷ 44 ∷ 32 ∷ 125 ∷ []
 
 unfoldable pub dictionaryText : ℕ → ℕ → ℕ → List ℕ
 dictionaryText a b c =
-    opening ++ (decimalOf a ++ (between ++ (decimalOf b ++ (between ++ (decimalOf c ++ closing)))))
+    opening ++ (decimalOf a ++ (separator ++ (decimalOf b ++ (separator ++ (decimalOf c ++ closing)))))
 
 -- R18.3: the numbers begin at the first multiple of 64 that is behind ten bytes, a text of n and its newline
 unfoldable pub dataAt : ℕ → ℕ

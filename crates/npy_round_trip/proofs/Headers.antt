@@ -17,7 +17,7 @@ use Rattle.npy_header.specs.Reading.{headerOf}
 use Rattle.npy_grammar.proofs.Pieces.{Reads, alone, retold, both, from, without, present}
 use Rattle.npy_grammar.proofs.Spans.{all-belong}
 use Rattle.npy_grammar.proofs.Exact.{exact}
-use Rattle.npy_front.specs.Front.{opening, between, closing, dictionaryText}
+use Rattle.npy_front.specs.Front.{opening, separator, closing, dictionaryText}
 use Rattle.npy_round_trip.specs.RoundTrip.{singles}
 use Rattle.npy_round_trip.proofs.Decimals.{decimal}
 
@@ -76,15 +76,15 @@ module _ (a b c : ℕ) (ha : Size a) (hb : Size b) (hc : Size c) where
   written = singles (a ∷ b ∷ c ∷ [])
 
   numbers : {r : List ℕ} → Reads (Numbers (a ∷ b ∷ c ∷ []) ⨾ Token (41 ∷ []))
-      (decimalOf a ++ (between ++ (decimalOf b ++ (between ++ (decimalOf c ++ (41 ∷ r)))))) r
-  unfolding Numbers between
+      (decimalOf a ++ (separator ++ (decimalOf b ++ (separator ++ (decimalOf c ++ (41 ∷ r)))))) r
+  unfolding Numbers separator
   numbers =
       let last = both (number 1 hc) (without _ _) in
       both (both (number 0 ha) (both (mark 0 44) (both (number 1 hb) (both (mark 0 44) last)))) (mark 0 41)
 
   -- the brace, the entries, and what follows them
   entries : {Q : Language} {m r : List ℕ} → Reads Q m r → Reads (Exactly (123 ∷ []) ⨾ Entries written ⨾ Q)
-      (opening ++ (decimalOf a ++ (between ++ (decimalOf b ++ (between ++ (decimalOf c ++ (41 ∷ m))))))) r
+      (opening ++ (decimalOf a ++ (separator ++ (decimalOf b ++ (separator ++ (decimalOf c ++ (41 ∷ m))))))) r
   unfolding Value front belongs nameOf descrWord orderWord shapeWord falseWord singleWord opening
   entries end =
       let descr = both (behind 0 (quoted descrWord refl)) (both (mark 0 58) (behind 1 (quoted singleWord refl))) in

@@ -1,7 +1,7 @@
 -- `npy_front::append_dictionary` meets its contract. Assumes nothing.
 use borrow.Author.Needs.{needs}
 use Rattle.text.proofs.Appends.{exact, both-within}
-use Rattle.npy_front.specs.Front.{opening, between, closing, dictionaryText}
+use Rattle.npy_front.specs.Front.{opening, separator, closing, dictionaryText}
 use Rattle.npy_front.proofs.append_dictionary.Statement.{statement}
 use Rattle.npy_front.proofs.append_dictionary.Tie as tie
 
@@ -61,7 +61,7 @@ same-length : tie.Need-same-length
 same-length c = search needs
 
 returns : tie.Need-returns
-unfolding dictionaryText opening between closing
+unfolding dictionaryText opening separator closing
 returns c =
     let closed = c .before .before in
     let third = three closed in

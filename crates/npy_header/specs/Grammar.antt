@@ -1,6 +1,7 @@
--- R18.4: the texts that are a header, by NumPy's format document: what Python writes for a dictionary of three entries, padded
--- with spaces and closed by a newline. This is what is to be believed; Reading.antt is how such a text is read, and the two are
--- proved to be the same (npy_grammar). Definitions only.
+-- R18.4: the texts that are a header, in the form of NumPy's format document: a dictionary of three entries as Python has it,
+-- padded with spaces and closed by a newline. This is what is to be believed; Reading.antt is how such a text is read, and the
+-- two are proved to be the same (npy_grammar). Definitions only.
+-- Bytes are ASCII: 10 the newline, 40 ( and 41 ), 44 the comma, 58 the colon, 123 { and 125 }.
 use Prim.Native.Nat.{ℕ}
 use mathlib.Core.Path.{_≡_}
 use mathlib.Core.Logic.{_⊎_}

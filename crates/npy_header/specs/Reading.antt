@@ -1,4 +1,5 @@
 -- R18.4, R18.5: how a header's text is read: brace, three entries, brace, and the newline that ends it. Definitions only.
+-- Bytes are ASCII: 10 the newline, 40 ( and 41 ), 44 the comma, 58 the colon, 84 T, 123 { and 125 }.
 use Prim.Native.Nat.{ℕ, zero, suc}
 use mathlib.Core.Bool.{Bool, _&&_, not, cond}
 use mathlib.Core.List.{List, [], _∷_}

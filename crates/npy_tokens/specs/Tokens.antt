@@ -1,6 +1,7 @@
 -- R18.4: how a header's text is read, from its front: what stands there, and the rest behind it. Where something else stands,
 -- the rest is empty; nothing is found in an empty text, so that a text that fails once fails to its end. That this is the
 -- grammar of Grammar.antt is a theorem (npy_grammar). Definitions only.
+-- Bytes are ASCII: 32 the space, 34 and 39 the quotes, 48 to 57 the digits, 92 the backslash.
 use Prim.Native.Nat.{ℕ, _+_, _*_, _-_}
 use mathlib.Core.Bool.{Bool, true, false, _&&_, _||_, not, cond}
 use mathlib.Core.List.{List, [], _∷_}

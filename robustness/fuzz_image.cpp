@@ -3,12 +3,10 @@
 #include <estimator.h>
 
 #include <algorithm>
-#include <array>
-#include <cstdio>
 #include <cstdlib>
 #include <cstring>
-#include <numeric>
 
+#include "answers.hpp"
 #include "guarded.hpp"
 #include "reader.hpp"
 
@@ -18,23 +16,6 @@ namespace {
 
 constexpr size_t old_size = 0x5a5a5a5a5a5a5a5a;
 constexpr float old_float = -77.25f;
-
-std::array<unsigned long, 28> answers; // how often each number came
-
-void print_answers() {
-    std::fprintf(stderr, "answers:");
-    for (size_t number = 0; number < answers.size(); ++number)
-        if (answers[number] > 0)
-            std::fprintf(stderr, " %zu:%lu", number, answers[number]);
-    std::fprintf(stderr, ", in all: %lu\n", std::accumulate(answers.begin(), answers.end(), 0ul));
-}
-
-void demand(bool agrees, const char *what) {
-    if (agrees)
-        return;
-    std::fprintf(stderr, "the library and the reader differ: %s\n", what);
-    std::abort();
-}
 
 bool same_bits(float a, float b) { return std::memcmp(&a, &b, sizeof a) == 0; }
 

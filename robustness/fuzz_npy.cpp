@@ -4,12 +4,11 @@
 #include <estimator.h>
 
 #include <algorithm>
-#include <array>
-#include <cstdio>
 #include <cstdlib>
 #include <cstring>
 #include <numeric>
 
+#include "answers.hpp"
 #include "guarded.hpp"
 #include "npy_inputs.hpp"
 
@@ -24,23 +23,6 @@ using Bits = std::vector<uint32_t>;
 
 constexpr size_t old_size = 0x5a5a5a5a5a5a5a5a;
 constexpr uint8_t old_byte = 0x5a;
-
-std::array<unsigned long, 38> answers; // how often each number came
-
-void print_answers() {
-    std::fprintf(stderr, "answers:");
-    for (size_t number = 0; number < answers.size(); ++number)
-        if (answers[number] > 0)
-            std::fprintf(stderr, " %zu:%lu", number, answers[number]);
-    std::fprintf(stderr, ", in all: %lu\n", std::accumulate(answers.begin(), answers.end(), 0ul));
-}
-
-void demand(bool agrees, const char *what) {
-    if (agrees)
-        return;
-    std::fprintf(stderr, "the library and the reader differ: %s\n", what);
-    std::abort();
-}
 
 // All parameters are told apart by their bits.
 Bits first_model(const Place &place, Fault fault) {

@@ -1,5 +1,5 @@
-// What the fuzzers that compare the library with a reader have in common: how often each number was answered, and the end
-// of a run in which the two differ.
+// What the fuzzers that compare the library with a reader have in common: how often each number was answered, and the
+// end of a run in which the two differ.
 #ifndef ANSWERS_HPP
 #define ANSWERS_HPP
 

@@ -82,8 +82,8 @@
  * for kan_visits, 2,112 for kan_predict and kan_loss, 592 for kan_npy_read, 528
  * for the others. So on a fibre of 4 KiB training leaves its caller 1,008 bytes,
  * accumulating 1,280, prediction 1,984. The first call needs no more than later
- * ones: memset, all that the archive needs of the C library, is bound when the
- * program is loaded.
+ * ones: memset and memcpy, all that the archive needs of the C library, are
+ * bound when the program is loaded.
  * If you put the archive into a shared object, link its callers with
  * -Wl,-z,now: else their own calls of it are bound late, on the fibre.
  *

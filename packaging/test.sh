@@ -102,7 +102,7 @@ for asked in "$major.$minor.$((patch + 1))" "$major.$minor.$((patch + 1)) EXACT"
     ! finds "${words[@]}" || stop "find_package(estimator $asked) finds $version"
 done
 
-echo "archive: the code that was compiled, and memset of the C library, bound when a program is loaded"
+echo "archive: the code that was compiled, and memset and memcpy of the C library, bound when a program is loaded"
 built=${ESTIMATOR_LIB:-target/staticlib}/libestimator.a
 code() { # ARCHIVE: its instructions and what they refer to, without the jumps that scripts/bind.sh adds
     objdump --disassemble --reloc "$1" | sed -n '/^Disassembly/,$ p' | sed '/^bound_.*:/,$ d' |

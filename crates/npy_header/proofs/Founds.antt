@@ -37,6 +37,16 @@ module _ (text sizes : List ℕ) (s : Read) (f : Found) (w : Follows text sizes 
     asked = e .asked ∙ w .asked;
   }
 
+  -- what is asked of the values so far
+  abbrev type-asked : Bool
+  type-asked = meets (λ (x : List ℕ). same x singleWord) (s .descr)
+
+  abbrev order-asked : Bool
+  order-asked = meets not (s .fortranOrder)
+
+  abbrev shape-asked : Bool
+  shape-asked = meets (λ (x : List ℕ). same x sizes) (s .shape)
+
   module _ (bs : List ℕ) where
     -- ---- a key that was there fails
     module _ (r : Found) (e : Fails text f r) where
@@ -77,7 +87,7 @@ module _ (text sizes : List ℕ) (s : Read) (f : Found) (w : Follows text sizes 
             descr = refl;
             order = w .order;
             shape = w .shape;
-            asked = rw (w .asked, h, v) (first-more (same (stringIn bs) singleWord) (meets not (s .fortranOrder)) (meets (λ (x : List ℕ). same x sizes) (s .shape)));
+            asked = rw (w .asked, h, v) (first-more (same (stringIn bs) singleWord) order-asked shape-asked);
           }
           by-value (some x) h = absurd (false≢true (sym t ∙ w .descr ∙ ap isThere h))
 
@@ -95,7 +105,7 @@ module _ (text sizes : List ℕ) (s : Read) (f : Found) (w : Follows text sizes 
             descr = w .descr;
             order = refl;
             shape = w .shape;
-            asked = rw (w .asked, h, v) (second-more (meets (λ (x : List ℕ). same x singleWord) (s .descr)) (not (truthIn bs)) (meets (λ (x : List ℕ). same x sizes) (s .shape)));
+            asked = rw (w .asked, h, v) (second-more type-asked (not (truthIn bs)) shape-asked);
           }
           by-value (some x) h = absurd (false≢true (sym t ∙ w .order ∙ ap isThere h))
 
@@ -113,6 +123,6 @@ module _ (text sizes : List ℕ) (s : Read) (f : Found) (w : Follows text sizes 
             descr = w .descr;
             order = w .order;
             shape = refl;
-            asked = rw (w .asked, h, v) (third-more (meets (λ (x : List ℕ). same x singleWord) (s .descr)) (meets not (s .fortranOrder)) (same (sizesIn bs) sizes));
+            asked = rw (w .asked, h, v) (third-more type-asked order-asked (same (sizesIn bs) sizes));
           }
           by-value (some x) h = absurd (false≢true (sym t ∙ w .shape ∙ ap isThere h))

@@ -66,12 +66,12 @@ module _ (ps : List Float) (from g : ℕ) where
       packed-floats-length (coefficientsAt k) ∙ ap (λ (n : ℕ). n * 4) l ∙ mul-comm (g + 3) 4
 
   -- each of n edges lies in the model where all do
-  before : (n k : ℕ) → from + n * (g + 5) ≤ length ps → k < n → from + k * (g + 5) + (g + 5) ≤ length ps
-  before n k h l = let m : k * (g + 5) + (g + 5) ≤ n * (g + 5) = room k n (g + 5) _ l (omega arith) in omega arith
+  pub edge-inside : (n k : ℕ) → from + n * (g + 5) ≤ length ps → k < n → from + k * (g + 5) + (g + 5) ≤ length ps
+  edge-inside n k h l = let m : k * (g + 5) + (g + 5) ≤ n * (g + 5) = room k n (g + 5) _ l (omega arith) in omega arith
 
   pub body-length : (n : ℕ) → from + n * (g + 5) ≤ length ps → length (bodyOf ps from g n) ≡ n * (4 * (g + 3))
   unfolding bodyOf
-  body-length n h = flat-sized _ (4 * (g + 3)) n (λ k l. words-length k (before n k h l))
+  body-length n h = flat-sized _ (4 * (g + 3)) n (λ k l. words-length k (edge-inside n k h l))
 
   module _ (body : List ℕ) where
     pub edge-length : (k : ℕ) → from + k * (g + 5) + (g + 5) ≤ length ps → length (edgeFrom ps from g body k) ≡ g + 5
@@ -84,4 +84,4 @@ module _ (ps : List Float) (from g : ℕ) where
 
     pub edges-length : (n : ℕ) → from + n * (g + 5) ≤ length ps
         → length (flatTo (edgeFrom ps from g body) n) ≡ n * (g + 5)
-    edges-length n h = flat-sized _ (g + 5) n (λ k l. edge-length k (before n k h l))
+    edges-length n h = flat-sized _ (g + 5) n (λ k l. edge-length k (edge-inside n k h l))

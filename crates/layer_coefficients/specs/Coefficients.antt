@@ -16,7 +16,7 @@ use Rattle.admission.specs.Admission.{upTo8}
 unfoldable pub upTo37 : List ℕ → Grid → ℕ → ℕ → ℕ
 upTo37 ws g model l = upTo8 ws g model then ltb l (length ws - 1) otherwise 37
 
--- ---- R2.6: where layer l begins, how many edges it has, and the shape of its coefficients
+-- ---- R2.6: where layer l begins, and how many edges it has
 abbrev pub layerAt : List ℕ → Grid → ℕ → ℕ
 layerAt ws g l = paramsTo (g .intervals + 5) ws l
 

@@ -2,7 +2,7 @@
 use Prim.Native.Nat.{ℕ, _≤_, _<_}
 use native.Mathlib.Omega.{arith}
 use mathlib.Core.Path.{_≡_, refl}
-use mathlib.Core.Bool.{Bool, true, false, _&&_, and-false, false≢true}
+use mathlib.Core.Bool.{Bool, true, false, and-false, and-eq-true-iff}
 use mathlib.Core.List.{List}
 use lib.ListN.{length, take}
 use borrow.Author.Tests.{leb-true, lt-leb}
@@ -11,13 +11,9 @@ use Rattle.npy_tokens.specs.Tokens.{same}
 use Rattle.npy_header.specs.Reading.{headerOf, headerFault}
 use Rattle.npy_header.specs.File.{magic, textIn, bodyAt, isFramed, fileFault}
 
-both-true : (a b : Bool) → a && b ≡ true → b ≡ true
-both-true true b e = e
-both-true false b e = absurd (false≢true e)
-
 pub framed-inside : (bs : List ℕ) → isFramed bs ≡ true → bodyAt bs ≤ length bs
 unfolding isFramed
-framed-inside bs e = leb-true (bodyAt bs) (length bs) (both-true (same (take 8 bs) magic) _ e)
+framed-inside bs e = leb-true (bodyAt bs) (length bs) (and-eq-true-iff (same (take 8 bs) magic) _ .0 e .1)
 
 -- a file without room for a length
 pub too-short : (bs : List ℕ) → length bs < 10 → isFramed bs ≡ false

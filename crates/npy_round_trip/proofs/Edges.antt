@@ -18,7 +18,7 @@ use Rattle.floats.proofs.Places.{part-length, part-at}
 use Rattle.words.specs.Words.{wordAt, floatAt, floatsIn}
 use Rattle.words.proofs.Tables.{float-at}
 use Rattle.layer_coefficients.specs.Coefficients.{edgeFrom, replaced}
-use Rattle.layer_coefficients.proofs.Edges.{edge-length, edges-length}
+use Rattle.layer_coefficients.proofs.Edges.{edge-inside, edge-length, edges-length}
 
 -- ---- lists: a place behind a front of n, and a word behind m bytes
 behind : {A : Type 0} (a r : List A) (n k : ℕ) (x : A) → length a ≡ n → getD (a ++ r) (n + k) x ≡ getD r k x
@@ -48,9 +48,6 @@ module _ (ps : List Float) (from g n : ℕ) (body : List ℕ) (fits : from + n *
   abbrev Either : ℕ → Type 0
   Either p = InEdge from g n p ⊎ (at model p ≡ at ps p)
 
-  end : (e : ℕ) → e < n → from + e * (g + 5) + (g + 5) ≤ length ps
-  end e h = let m : e * (g + 5) + (g + 5) ≤ n * (g + 5) = room e n (g + 5) _ h (omega arith) in omega arith
-
   front : length (take from ps) ≡ from
   front = length-take-le from ps (omega arith)
 
@@ -66,16 +63,16 @@ module _ (ps : List Float) (from g n : ℕ) (body : List ℕ) (fits : from + n *
       → at model (from + (e * (g + 5) + r)) ≡ at (edgeFrom ps from g body e) r
   unfolding replaced
   in-edge e r h l =
-      let z = end e h in
+      let z = edge-inside ps from g n e fits h in
       let long = edges-length ps from g body n fits in
       let start = edges-length ps from g body e (omega arith) in
       let m : e * (g + 5) + (g + 5) ≤ n * (g + 5) = room e n (g + 5) _ h (omega arith) in
       behind (take from ps) (edges n ++ drop (from + n * (g + 5)) ps) from (e * (g + 5) + r) nan front
       ∙ List·getD-append (edges n) (drop (from + n * (g + 5)) ps) nan (e * (g + 5) + r) (omega arith)
-      ∙ rw (← start) (flat-get (edgeFrom ps from g body) e n r nan h (rw (edge-length ps from g body e (end e h)) l))
+      ∙ rw (← start) (flat-get (edgeFrom ps from g body) e n r nan h (rw (edge-length ps from g body e (edge-inside ps from g n e fits h)) l))
 
   weight-length : (e : ℕ) → e < n → length (partAt ps (from + e * (g + 5)) 2) ≡ 2
-  weight-length e h = let z = end e h in part-length ps (from + e * (g + 5)) 2 (omega arith)
+  weight-length e h = let z = edge-inside ps from g n e fits h in part-length ps (from + e * (g + 5)) 2 (omega arith)
 
   weight : (e r : ℕ) → e < n → r < 2
       → at model (from + (e * (g + 5) + r)) ≡ at ps (from + (e * (g + 5) + r))

@@ -2,12 +2,13 @@
 use Prim.Native.Nat.{ℕ, _+_, _*_, _-_}
 use native.Mathlib.Nat.{add-sub-cancel-left}
 use native.Mathlib.Omega.{arith}
-use mathlib.Core.Path.{_≡_, refl, ap, _∙_}
-use mathlib.Core.Bool.{Bool, true, false, _&&_, not, false≢true}
+use mathlib.Core.Path.{_≡_, ap, _∙_}
+use mathlib.Core.Bool.{true, _&&_, not, and-eq-true-iff}
 use mathlib.Core.List.{List}
 use mathlib.Core.Option.{Option, none, some}
 use lib.ListN.{length, length-drop}
 use lib.Ieee.{Float}
+use borrow.Author.Tests.{not-true}
 use Rattle.floats.specs.Sums.{allFinite}
 use Rattle.refusals.specs.Refusals.{_otherwise_}
 use Rattle.refusals.proofs.Firsts.{both-pass, test-passes}
@@ -25,23 +26,14 @@ use Rattle.npy_reading.proofs.Faults.{accepted-whole, in-words}
 use Rattle.npy_round_trip.specs.RoundTrip.{singles}
 
 -- ---- a header that is not refused says what is asked
-all-three : (a b c : Bool) → a && b && c ≡ true → (a ≡ true) × (b ≡ true) × (c ≡ true)
-all-three true true true e = (refl, refl, refl)
-all-three true true false e = absurd (false≢true e)
-all-three true false c e = absurd (false≢true e)
-all-three false b c e = absurd (false≢true e)
-
-rows-first : (o : Bool) → not o ≡ true → o ≡ false
-rows-first true e = absurd (false≢true e)
-rows-first false e = refl
-
 as-asked : (shape : List ℕ) (d : Dictionary) → asked shape d ≡ true → d ≡ singles shape
 unfolding asked
 as-asked shape d e =
-    let three = all-three (same (d .descr) singleWord) (not (d .fortranOrder)) (same (d .shape) shape) e in
-    let type = same-true (d .descr) singleWord (three .0) in
-    let order = rows-first (d .fortranOrder) (three .1) in
-    let sizes = same-true (d .shape) shape (three .2) in
+    let both = and-eq-true-iff (same (d .descr) singleWord && not (d .fortranOrder)) (same (d .shape) shape) .0 e in
+    let first = and-eq-true-iff (same (d .descr) singleWord) (not (d .fortranOrder)) .0 (both .0) in
+    let type = same-true (d .descr) singleWord (first .0) in
+    let order = not-true (d .fortranOrder) (first .1) in
+    let sizes = same-true (d .shape) shape (both .1) in
     λ i. record { descr = type i; fortranOrder = order i; shape = sizes i }
 
 said : (shape : List ℕ) (o : Option Dictionary) → headerFault shape o ≡ 0 → o ≡ some (singles shape)

@@ -2,7 +2,7 @@
 use Prim.Native.Nat.{ℕ, zero, suc, _+_, _*_, _-_, _≤_, _<_}
 use native.Mathlib.Omega.{arith}
 use mathlib.Core.Path.{_≡_, refl, sym, ap, _∙_}
-use mathlib.Core.Bool.{Bool, true, false, _&&_, not, cond, and-false, false≢true}
+use mathlib.Core.Bool.{Bool, true, false, _&&_, not, cond, and-false, and-eq-true-iff, false≢true}
 use mathlib.Core.List.{List, [], _∷_, _++_}
 use lib.Dec.{eqb, leb, ltb}
 use lib.ListN.{length, getD, drop, length-drop}
@@ -130,11 +130,7 @@ front-belongs c (b ∷ bs) i h = belongs-at c b bs (belongs c b) refl (front-bel
 
 digit-least : (b : ℕ) → belongs Digit b ≡ true → 48 ≤ b
 unfolding belongs
-digit-least b e = leb-true 48 b (left-true (leb 48 b) (leb b 57) e)
-  where
-    left-true : (s t : Bool) → s && t ≡ true → s ≡ true
-    left-true true t p = refl
-    left-true false t p = p
+digit-least b e = leb-true 48 b (and-eq-true-iff (leb 48 b) (leb b 57) .0 e .0)
 
 pub digits-found : (text : List ℕ) (from end : ℕ) → Ended text from Digit end → Digits text from end
 digits-found text from end e =

@@ -71,7 +71,7 @@ pub fn add_coefficients(grid: Grid, u: f32, x: f32, gradients: &mut [f32])
 {
     let n = grid.intervals + 3;
     for k in 0..n {
-        gradients[k] = gradients[k] + u * spline::basis_value(grid, 3, k, x);
+        gradients[k] = gradients[k] + u * spline::basis_value(grid, k, x);
     }
 }
 

@@ -141,7 +141,7 @@ fn basis_agrees(words: &[u64]) -> bool {
     let x = float_of(words[3]);
     let mut i = 0;
     while i < values {
-        if !same_bits(spline::basis_value(grid, 3, i, x), words[4 + i]) {
+        if !same_bits(spline::basis_value(grid, i, x), words[4 + i]) {
             return false;
         }
         if !same_bits(spline::basis_slope(grid, i, x), words[4 + values + i]) {

@@ -42,7 +42,7 @@ pub extern "C" fn kan_basis_value(intervals: usize, lo: f32, hi: f32, i: usize, 
 {
     if intervals <= 250000 {
         if i < intervals + 3 {
-            return spline::basis_value(Grid { intervals, lo, hi }, 3, i, x);
+            return spline::basis_value(Grid { intervals, lo, hi }, i, x);
         }
     }
     0.0

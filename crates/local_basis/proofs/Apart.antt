@@ -1,5 +1,5 @@
 -- A basis value whose support does not hold x is a zero, and the others by the triangle on six knots. Assumes nothing.
-use mathlib.Core.Path.{_≡_, refl, sym, ap, _∙_, subst}
+use mathlib.Core.Path.{_≡_, refl, sym, _∙_, subst}
 use mathlib.Core.Logic.{_⊎_, inl, inr}
 use Prim.Native.Nat.{ℕ, zero, suc, _+_, _≤_, _<_}
 use native.Mathlib.Nat.{le-refl}
@@ -10,7 +10,7 @@ use lib.Ieee.{Float, binary32, le, lt, eq, fits, ofBits}
 use lib.Ieee.Fits.{div-fits, cond-fits}
 use lib.Ieee.Bits.{ofBits-fits}
 use lib.Ieee.Scale.{finite}
-use Rattle.floats.specs.Binary32.{_⊕_, _⊖_, _⊗_, _⊘_, zero32, one32}
+use Rattle.floats.specs.Binary32.{_⊖_, _⊗_, _⊘_, zero32, one32}
 use Rattle.floats.specs.Sums.{at}
 use Rattle.floats.specs.Zeros.{isZero, Alike}
 use Rattle.floats.proofs.Zeros.{mul-zero-zero, add-zeros}
@@ -20,6 +20,8 @@ use Rattle.floats.proofs.Alike.{div-zero, eq-zero, alike-div}
 use Rattle.floats.proofs.Sums.{alike-mul}
 use Rattle.spline.specs.declared.Grid.{Grid}
 use Rattle.spline.specs.Spline.{knotOf, portionOf, indicatorOf, blendOf, coxOf}
+use Rattle.spline.specs.Steps.{risingOf, fallingOf}
+use Rattle.spline.proofs.Unrolled.{blend-is}
 use Rattle.local_basis.specs.Meshes.{calmOf}
 use Rattle.local_basis.proofs.Knots.{knot-mono, knot-finite, gap, from, to}
 
@@ -48,19 +50,6 @@ portion-alike u v' v d q h = go (eq d zero32) refl
     go true e = inl refl
     go false e = alike-div (u ⊗ v') (u ⊗ v) d q (eq-zero d q e) (alike-mul u v' v h)
 
--- the recursion's step by knots of given indices
-pub blend-is : (g : Grid) (d i : ℕ) (x low next : Float) (b c e : ℕ) → i + 1 ≡ b → i + d ≡ c → i + d + 1 ≡ e
-    → blendOf g d i x low next ≡ portionOf (x ⊖ knotOf g i) low (knotOf g c ⊖ knotOf g i)
-    ⊕ portionOf (knotOf g e ⊖ x) next (knotOf g e ⊖ knotOf g b)
-unfolding blendOf
-blend-is g d i x low next b c e p q r =
-    ap (λ (n : ℕ). portionOf (x ⊖ knotOf g i) low (knotOf g n ⊖ knotOf g i)
-    ⊕ portionOf (knotOf g (i + d + 1) ⊖ x) next (knotOf g (i + d + 1) ⊖ knotOf g (i + 1))) q
-    ∙ ap (λ (n : ℕ). portionOf (x ⊖ knotOf g i) low (knotOf g c ⊖ knotOf g i)
-    ⊕ portionOf (knotOf g n ⊖ x) next (knotOf g n ⊖ knotOf g (i + 1))) r
-    ∙ ap (λ (n : ℕ). portionOf (x ⊖ knotOf g i) low (knotOf g c ⊖ knotOf g i) ⊕ portionOf (knotOf g e ⊖ x) next
-    (knotOf g e ⊖ knotOf g n)) p
-
 -- x lies between the first knot and the last of a calm grid
 pub record Inside (g : Grid) (x : Float) : Type 0 where
   pub calm : T (calmOf g)
@@ -82,8 +71,8 @@ module _ (g : Grid) (x : Float) (s : Inside g x) where
       → T (isZero (blendOf g d i x low next))
   blend-zero d i low next h p q =
       subst (λ (z : Float). T (isZero z)) (sym (blend-is g d i x low next (i + 1) (i + d) (i + d + 1) refl refl refl))
-      (add-zeros binary32 (portionOf (x ⊖ knotOf g i) low (knotOf g (i + d) ⊖ knotOf g i))
-      (portionOf (knotOf g (i + d + 1) ⊖ x) next (knotOf g (i + d + 1) ⊖ knotOf g (i + 1)))
+      (add-zeros binary32 (risingOf (knotOf g i) (knotOf g (i + d)) x low)
+      (fallingOf (knotOf g (i + 1)) (knotOf g (i + d + 1)) x next)
       (portion-zero (x ⊖ knotOf g i) low (knotOf g (i + d) ⊖ knotOf g i) (right i (omega arith))
       (wide (i + d) i (omega arith) (omega arith)) p)
       (portion-zero (knotOf g (i + d + 1) ⊖ x) next (knotOf g (i + d + 1) ⊖ knotOf g (i + 1)) (left (i + d + 1) h)

@@ -10,25 +10,27 @@ use Rattle.floats.specs.Binary32.{_⊕_, _⊖_, one32}
 use Rattle.floats.specs.Zeros.{isZero, Alike}
 use Rattle.floats.proofs.Alike.{alike-before, alike-after, alike-sym, alike-chain, alike-adds}
 use Rattle.spline.specs.declared.Grid.{Grid}
-use Rattle.spline.specs.Spline.{knotOf, portionOf, coxOf}
+use Rattle.spline.specs.Spline.{knotOf, coxOf}
+use Rattle.spline.specs.Steps.{risingOf, fallingOf, blendBy}
+use Rattle.spline.proofs.Unrolled.{blend-is}
 use Rattle.local_basis.specs.Fours.{linearLow, linearHigh, squareLow, squareMiddle, squareHigh, cubeFirst, cubeSecond, cubeThird}
 use Rattle.local_basis.specs.Fours.{cubeFourth}
-use Rattle.local_basis.proofs.Apart.{portion-fits, portion-zero, portion-alike, blend-is, Inside, right, left, wide, ind-at, cox-off}
+use Rattle.local_basis.proofs.Apart.{portion-fits, portion-zero, portion-alike, Inside, right, left, wide, ind-at, cox-off}
 
 module _ (g : Grid) (x : Float) (s : Inside g x) where
   -- the lower value is a zero: only the second part is left
   step-right : (d i b e : ℕ) (n : Float) → i + 1 ≡ b → i + suc d + 1 ≡ e → e ≤ g .intervals + 6
       → T (isZero (coxOf g d i x))
       → Alike n (coxOf g d b x)
-      → Alike (portionOf (knotOf g e ⊖ x) n (knotOf g e ⊖ knotOf g b)) (coxOf g (suc d) i x)
+      → Alike (fallingOf (knotOf g b) (knotOf g e) x n) (coxOf g (suc d) i x)
   unfolding coxOf
   step-right d i b e n p q h z a =
-      let u = portionOf (x ⊖ knotOf g i) (coxOf g d i x) (knotOf g (i + suc d) ⊖ knotOf g i) in
-      let v = portionOf (knotOf g e ⊖ x) (coxOf g d (i + 1) x) (knotOf g e ⊖ knotOf g b) in
+      let u = risingOf (knotOf g i) (knotOf g (i + suc d)) x (coxOf g d i x) in
+      let v = fallingOf (knotOf g b) (knotOf g e) x (coxOf g d (i + 1) x) in
       let a' : Alike n (coxOf g d (i + 1) x) = subst (λ (k : ℕ). Alike n (coxOf g d k x)) (sym p) a in
-      subst (λ (y : Float). Alike (portionOf (knotOf g e ⊖ x) n (knotOf g e ⊖ knotOf g b)) y)
+      subst (λ (y : Float). Alike (fallingOf (knotOf g b) (knotOf g e) x n) y)
       (sym (blend-is g (suc d) i x (coxOf g d i x) (coxOf g d (i + 1) x) b (i + suc d) e p refl q))
-      (alike-chain (portionOf (knotOf g e ⊖ x) n (knotOf g e ⊖ knotOf g b)) v (u ⊕ v)
+      (alike-chain (fallingOf (knotOf g b) (knotOf g e) x n) v (u ⊕ v)
       (portion-alike (knotOf g e ⊖ x) n (coxOf g d (i + 1) x) (knotOf g e ⊖ knotOf g b)
       (wide g x s e b h (omega arith)) a')
       (alike-sym (u ⊕ v) v (alike-before u v
@@ -39,16 +41,16 @@ module _ (g : Grid) (x : Float) (s : Inside g x) where
   -- the next value is a zero: only the first part is left
   step-left : (d i b c : ℕ) (n : Float) → i + 1 ≡ b → i + suc d ≡ c → c + 1 ≤ g .intervals + 6 → Alike n (coxOf g d i x)
       → T (isZero (coxOf g d b x))
-      → Alike (portionOf (x ⊖ knotOf g i) n (knotOf g c ⊖ knotOf g i)) (coxOf g (suc d) i x)
+      → Alike (risingOf (knotOf g i) (knotOf g c) x n) (coxOf g (suc d) i x)
   unfolding coxOf
   step-left d i b c n p q h a z =
       let e = i + suc d + 1 in
-      let u = portionOf (x ⊖ knotOf g i) (coxOf g d i x) (knotOf g c ⊖ knotOf g i) in
-      let v = portionOf (knotOf g e ⊖ x) (coxOf g d (i + 1) x) (knotOf g e ⊖ knotOf g b) in
+      let u = risingOf (knotOf g i) (knotOf g c) x (coxOf g d i x) in
+      let v = fallingOf (knotOf g b) (knotOf g e) x (coxOf g d (i + 1) x) in
       let z' : T (isZero (coxOf g d (i + 1) x)) = subst (λ (k : ℕ). T (isZero (coxOf g d k x))) (sym p) z in
-      subst (λ (y : Float). Alike (portionOf (x ⊖ knotOf g i) n (knotOf g c ⊖ knotOf g i)) y)
+      subst (λ (y : Float). Alike (risingOf (knotOf g i) (knotOf g c) x n) y)
       (sym (blend-is g (suc d) i x (coxOf g d i x) (coxOf g d (i + 1) x) b c e p q refl))
-      (alike-chain (portionOf (x ⊖ knotOf g i) n (knotOf g c ⊖ knotOf g i)) u (u ⊕ v)
+      (alike-chain (risingOf (knotOf g i) (knotOf g c) x n) u (u ⊕ v)
       (portion-alike (x ⊖ knotOf g i) n (coxOf g d i x) (knotOf g c ⊖ knotOf g i)
       (wide g x s c i (omega arith) (omega arith)) a)
       (alike-sym (u ⊕ v) u (alike-after v u (portion-fits (x ⊖ knotOf g i) (coxOf g d i x) (knotOf g c ⊖ knotOf g i))
@@ -58,19 +60,15 @@ module _ (g : Grid) (x : Float) (s : Inside g x) where
   step-both : (d i b c e : ℕ) (m n : Float) → i + 1 ≡ b → i + suc d ≡ c → i + suc d + 1 ≡ e → e ≤ g .intervals + 6
       → Alike m (coxOf g d i x)
       → Alike n (coxOf g d b x)
-      → Alike (portionOf (x ⊖ knotOf g i) m (knotOf g c ⊖ knotOf g i) ⊕ portionOf (knotOf g e ⊖ x) n
-      (knotOf g e ⊖ knotOf g b))
-      (coxOf g (suc d) i x)
+      → Alike (blendBy (knotOf g i) (knotOf g b) (knotOf g c) (knotOf g e) x m n) (coxOf g (suc d) i x)
   unfolding coxOf
   step-both d i b c e m n p q r h a a' =
-      subst (λ (y : Float). Alike
-      (portionOf (x ⊖ knotOf g i) m (knotOf g c ⊖ knotOf g i) ⊕ portionOf (knotOf g e ⊖ x) n
-      (knotOf g e ⊖ knotOf g b)) y)
+      subst (λ (y : Float). Alike (blendBy (knotOf g i) (knotOf g b) (knotOf g c) (knotOf g e) x m n) y)
       (sym (blend-is g (suc d) i x (coxOf g d i x) (coxOf g d (i + 1) x) b c e p q r))
-      (alike-adds (portionOf (x ⊖ knotOf g i) m (knotOf g c ⊖ knotOf g i))
-      (portionOf (x ⊖ knotOf g i) (coxOf g d i x) (knotOf g c ⊖ knotOf g i))
-      (portionOf (knotOf g e ⊖ x) n (knotOf g e ⊖ knotOf g b))
-      (portionOf (knotOf g e ⊖ x) (coxOf g d (i + 1) x) (knotOf g e ⊖ knotOf g b))
+      (alike-adds (risingOf (knotOf g i) (knotOf g c) x m)
+      (risingOf (knotOf g i) (knotOf g c) x (coxOf g d i x))
+      (fallingOf (knotOf g b) (knotOf g e) x n)
+      (fallingOf (knotOf g b) (knotOf g e) x (coxOf g d (i + 1) x))
       (portion-fits (x ⊖ knotOf g i) (coxOf g d i x) (knotOf g c ⊖ knotOf g i))
       (portion-fits (knotOf g e ⊖ x) n (knotOf g e ⊖ knotOf g b))
       (portion-alike (x ⊖ knotOf g i) m (coxOf g d i x) (knotOf g c ⊖ knotOf g i)

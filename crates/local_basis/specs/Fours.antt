@@ -13,6 +13,7 @@ use Rattle.floats.specs.Sums.{at}
 use Rattle.floats.specs.Zeros.{isZero, Alike}
 use Rattle.spline.specs.declared.Grid.{Grid}
 use Rattle.spline.specs.Spline.{knotOf, portionOf, valueOf, slopeOf}
+use Rattle.spline.specs.Steps.{risingOf, fallingOf, blendBy}
 use Rattle.local_basis.specs.declared.Eight.{Eight}
 use Rattle.local_basis.specs.declared.Four.{Four}
 use Rattle.local_basis.specs.declared.triangle.Squares.{Squares}
@@ -20,37 +21,34 @@ use Rattle.local_basis.specs.declared.triangle.Squares.{Squares}
 -- ---- the triangle for an x from knot a up to knot a + 1: two values of degree 1, three of degree 2, four of degree 3.
 -- Near the first knot some of them belong to no basis function; what they are then is of no use and does no harm.
 abbrev pub linearLow : Grid → ℕ → Float → Float
-linearLow g a x = portionOf (knotOf g (a + 1) ⊖ x) one32 (knotOf g (a + 1) ⊖ knotOf g a)
+linearLow g a x = fallingOf (knotOf g a) (knotOf g (a + 1)) x one32
 
 abbrev pub linearHigh : Grid → ℕ → Float → Float
-linearHigh g a x = portionOf (x ⊖ knotOf g a) one32 (knotOf g (a + 1) ⊖ knotOf g a)
+linearHigh g a x = risingOf (knotOf g a) (knotOf g (a + 1)) x one32
 
 unfoldable pub squareLow : Grid → ℕ → Float → Float
-squareLow g a x = portionOf (knotOf g (a + 1) ⊖ x) (linearLow g a x) (knotOf g (a + 1) ⊖ knotOf g (a - 1))
+squareLow g a x = fallingOf (knotOf g (a - 1)) (knotOf g (a + 1)) x (linearLow g a x)
 
 unfoldable pub squareMiddle : Grid → ℕ → Float → Float
 squareMiddle g a x =
-    portionOf (x ⊖ knotOf g (a - 1)) (linearLow g a x) (knotOf g (a + 1) ⊖ knotOf g (a - 1))
-    ⊕ portionOf (knotOf g (a + 2) ⊖ x) (linearHigh g a x) (knotOf g (a + 2) ⊖ knotOf g a)
+    blendBy (knotOf g (a - 1)) (knotOf g a) (knotOf g (a + 1)) (knotOf g (a + 2)) x (linearLow g a x) (linearHigh g a x)
 
 unfoldable pub squareHigh : Grid → ℕ → Float → Float
-squareHigh g a x = portionOf (x ⊖ knotOf g a) (linearHigh g a x) (knotOf g (a + 2) ⊖ knotOf g a)
+squareHigh g a x = risingOf (knotOf g a) (knotOf g (a + 2)) x (linearHigh g a x)
 
 unfoldable pub cubeFirst : Grid → ℕ → Float → Float
-cubeFirst g a x = portionOf (knotOf g (a + 1) ⊖ x) (squareLow g a x) (knotOf g (a + 1) ⊖ knotOf g (a - 2))
+cubeFirst g a x = fallingOf (knotOf g (a - 2)) (knotOf g (a + 1)) x (squareLow g a x)
 
 unfoldable pub cubeSecond : Grid → ℕ → Float → Float
 cubeSecond g a x =
-    portionOf (x ⊖ knotOf g (a - 2)) (squareLow g a x) (knotOf g (a + 1) ⊖ knotOf g (a - 2))
-    ⊕ portionOf (knotOf g (a + 2) ⊖ x) (squareMiddle g a x) (knotOf g (a + 2) ⊖ knotOf g (a - 1))
+    blendBy (knotOf g (a - 2)) (knotOf g (a - 1)) (knotOf g (a + 1)) (knotOf g (a + 2)) x (squareLow g a x) (squareMiddle g a x)
 
 unfoldable pub cubeThird : Grid → ℕ → Float → Float
 cubeThird g a x =
-    portionOf (x ⊖ knotOf g (a - 1)) (squareMiddle g a x) (knotOf g (a + 2) ⊖ knotOf g (a - 1))
-    ⊕ portionOf (knotOf g (a + 3) ⊖ x) (squareHigh g a x) (knotOf g (a + 3) ⊖ knotOf g a)
+    blendBy (knotOf g (a - 1)) (knotOf g a) (knotOf g (a + 2)) (knotOf g (a + 3)) x (squareMiddle g a x) (squareHigh g a x)
 
 unfoldable pub cubeFourth : Grid → ℕ → Float → Float
-cubeFourth g a x = portionOf (x ⊖ knotOf g a) (squareHigh g a x) (knotOf g (a + 3) ⊖ knotOf g a)
+cubeFourth g a x = risingOf (knotOf g a) (knotOf g (a + 3)) x (squareHigh g a x)
 
 -- the six knots about x, and the three values of degree 2
 pub record SquaresAt (g : Grid) (x : Float) (a : ℕ) (r : Squares) : Type 0 where
@@ -94,10 +92,10 @@ RisesAt g x a r =
 unfoldable pub cubesOf : Squares → Float → ℕ → Four
 cubesOf s x a = record {
   start = a - 3;
-  first = portionOf (s .k4 ⊖ x) (s .low) (s .k4 ⊖ s .k1);
-  second = portionOf (x ⊖ s .k1) (s .low) (s .k4 ⊖ s .k1) ⊕ portionOf (s .k5 ⊖ x) (s .middle) (s .k5 ⊖ s .k2);
-  third = portionOf (x ⊖ s .k2) (s .middle) (s .k5 ⊖ s .k2) ⊕ portionOf (s .k6 ⊖ x) (s .high) (s .k6 ⊖ s .k3);
-  fourth = portionOf (x ⊖ s .k3) (s .high) (s .k6 ⊖ s .k3);
+  first = fallingOf (s .k1) (s .k4) x (s .low);
+  second = blendBy (s .k1) (s .k2) (s .k4) (s .k5) x (s .low) (s .middle);
+  third = blendBy (s .k2) (s .k3) (s .k5) (s .k6) x (s .middle) (s .high);
+  fourth = risingOf (s .k3) (s .k6) x (s .high);
 }
 
 unfoldable pub risesOf : Squares → ℕ → Four

@@ -71,8 +71,8 @@ pub fn slopes_at(mesh: Mesh, x: f32) -> Four
     placed(mesh.grid.intervals, at, rises(squares_of(mesh, x, at), at))
 }
 
-// For an input that no interval holds, and for who asks for neither.
-pub fn no_eight() -> Eight
+// For an input that no interval holds.
+fn no_eight() -> Eight
     ensures { λ r. ⌜ (r .values ≡ noFour) × (r .slopes ≡ noFour) ⌝ }
 {
     Eight {

@@ -7,7 +7,6 @@ mod search;
 mod triangle;
 
 pub use fours::both_at;
-pub use fours::no_eight;
 pub use fours::slopes_at;
 pub use fours::values_at;
 pub use fours::values_by;

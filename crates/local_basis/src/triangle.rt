@@ -1,4 +1,5 @@
-// The triangle of Cox and de Boor on the six knots about an input: each value of a degree is worked out once.
+// The triangle of Cox and de Boor on the six knots about an input, by the steps of `spline::triangle`: each value of a degree
+// is worked out once, and where a neighbour is zero half a step is left, `rising` or `falling`.
 ghost use mathlib.Core.Path.{_≡_};
 ghost use Prim.Native.Nat.{_-_, _≤_};
 ghost use Rattle.local_basis.specs.Fours.{SquaresAt, cubesOf, risesOf};
@@ -6,7 +7,10 @@ ghost use Rattle.local_basis.specs.Meshes.{Meshed};
 use crate::Four;
 use crate::Mesh;
 use crate::search::knot_at;
+use spline::blend;
+use spline::falling;
 use spline::portion;
+use spline::rising;
 
 // i - n, or 0.
 fn less(i: usize, n: usize) -> usize
@@ -39,8 +43,8 @@ pub fn squares_of(mesh: Mesh, x: f32, at: usize) -> Squares
     let k4 = knot_at(mesh, at + 1);
     let k5 = knot_at(mesh, at + 2);
     let k6 = knot_at(mesh, at + 3);
-    let linear_low = portion(k4 - x, 1.0, k4 - k3);
-    let linear_high = portion(x - k3, 1.0, k4 - k3);
+    let linear_low = falling(k3, k4, x, 1.0);
+    let linear_high = rising(k3, k4, x, 1.0);
     Squares {
         k1,
         k2,
@@ -48,9 +52,9 @@ pub fn squares_of(mesh: Mesh, x: f32, at: usize) -> Squares
         k4,
         k5,
         k6,
-        low: portion(k4 - x, linear_low, k4 - k2),
-        middle: portion(x - k2, linear_low, k4 - k2) + portion(k5 - x, linear_high, k5 - k3),
-        high: portion(x - k3, linear_high, k5 - k3),
+        low: falling(k2, k4, x, linear_low),
+        middle: blend(k2, k3, k4, k5, x, linear_low, linear_high),
+        high: rising(k3, k5, x, linear_high),
     }
 }
 
@@ -58,16 +62,12 @@ pub fn squares_of(mesh: Mesh, x: f32, at: usize) -> Squares
 pub fn cubes(s: Squares, x: f32, at: usize) -> Four
     ensures { λ r. ⌜ r ≡ cubesOf s x at ⌝ }
 {
-    let a = portion(s.k4 - x, s.low, s.k4 - s.k1);
-    let b = portion(x - s.k1, s.low, s.k4 - s.k1) + portion(s.k5 - x, s.middle, s.k5 - s.k2);
-    let c = portion(x - s.k2, s.middle, s.k5 - s.k2) + portion(s.k6 - x, s.high, s.k6 - s.k3);
-    let d = portion(x - s.k3, s.high, s.k6 - s.k3);
     Four {
         start: less(at, 3),
-        first: a,
-        second: b,
-        third: c,
-        fourth: d,
+        first: falling(s.k1, s.k4, x, s.low),
+        second: blend(s.k1, s.k2, s.k4, s.k5, x, s.low, s.middle),
+        third: blend(s.k2, s.k3, s.k5, s.k6, x, s.middle, s.high),
+        fourth: rising(s.k3, s.k6, x, s.high),
     }
 }
 

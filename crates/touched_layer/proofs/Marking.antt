@@ -4,13 +4,12 @@ use mathlib.Core.Bool.{Bool, true, false, cond}
 use mathlib.Core.List.{List, [], _∷_, _++_}
 use Prim.Native.Nat.{ℕ, zero, suc, _+_, _-_, _≤_, _<_}
 use native.Mathlib.Nat.{le-of-suc-le-suc}
-use native.Mathlib.Numerals.{add-one}
 use native.Mathlib.Omega.{arith}
 use lib.ListN.{length, take, drop, getD, set}
 use lib.Seq.{set-split, drop-cons}
 use borrow.Rule.Slice.PartMut.{putMid}
-use Rattle.floats.specs.Sums.{tabulate, flatTo}
-use Rattle.floats.proofs.Loops.{tab-length, put-rest}
+use Rattle.floats.specs.Sums.{flatTo}
+use Rattle.floats.proofs.Loops.{put-rest}
 use Rattle.touched_layer.specs.Marks.{markedBy}
 
 pub marked-length : (bs : List Bool) (ms : List ℕ) → length (markedBy bs ms) ≡ length ms
@@ -28,11 +27,7 @@ marked-get (b ∷ bs) [] p h = absurd (omega arith)
 marked-get (b ∷ bs) (m ∷ ms) zero h = refl
 marked-get (b ∷ bs) (m ∷ ms) (suc p) h = marked-get bs ms p (le-of-suc-le-suc h)
 
--- before the first byte, and before the first part
-pub marked-start : (t : ℕ → Bool) (ms : List ℕ) → ms ≡ markedBy (tabulate t 0) ms
-unfolding markedBy tabulate
-marked-start t ms = refl
-
+-- before the first part
 pub marked-first : (f : ℕ → List Bool) (ms : List ℕ) → ms ≡ markedBy (flatTo f 0) ms
 unfolding markedBy flatTo
 marked-first f ms = refl
@@ -56,17 +51,14 @@ marked-part bs cs a d e y p q h r =
 pub marked-size : (bs : List Bool) (d e : List ℕ) → e ≡ markedBy bs d → length e ≡ length d
 marked-size bs d e p = ap length p ∙ marked-length bs d
 
--- a turn that marks one byte
-pub marked-one : (t : ℕ → Bool) (k : ℕ) (d e : List ℕ) (y : ℕ) → e ≡ markedBy (tabulate t k) d → k < length d
-    → y ≡ cond (t k) 1 (getD e k 0) → set e k y ≡ markedBy (tabulate t (k + 1)) d
-unfolding markedBy tabulate
-marked-one t k d e y p h q =
-    let n : length (tabulate t k) ≡ k = tab-length t k in
-    let l : k < length e = omega (arith, ap length p, marked-length (tabulate t k) d) in
-    let more : take k e ++ markedBy (t k ∷ []) (drop k e) ≡ markedBy (tabulate t k ++ (t k ∷ [])) d =
-    rw (← p, n) at (marked-append (tabulate t k) (t k ∷ []) d (omega arith)) in
-    let byte : y ∷ drop (suc k) e ≡ markedBy (t k ∷ []) (drop k e) = rw (q, drop-cons e k 0 l) in
-    set-split e k y l ∙ ap (λ (z : List ℕ). take k e ++ z) byte ∙ more ∙ rw (add-one k)
+-- the byte behind the tests bs is set by one test more
+pub marked-one : (bs : List Bool) (b : Bool) (p : ℕ) (d e : List ℕ) (y : ℕ) → e ≡ markedBy bs d → length bs ≡ p
+    → p < length e → y ≡ cond b 1 (getD e p 0) → set e p y ≡ markedBy (bs ++ (b ∷ [])) d
+unfolding markedBy
+marked-one bs b p d e y q n h r =
+    let l : length bs ≤ length d = omega (arith, ap length q, marked-length bs d) in
+    let byte : y ∷ drop (suc p) e ≡ markedBy (b ∷ []) (drop p e) = rw (r, drop-cons e p 0 h) in
+    set-split e p y h ∙ rw (byte, ← n, q) (marked-append bs (b ∷ []) d l)
 
 -- two bytes set, and the rest marked
 pub marked-two : (bs : List Bool) (d y : List ℕ) → 2 ≤ length d → y ≡ markedBy bs (drop 2 (set (set d 0 1) 1 1))

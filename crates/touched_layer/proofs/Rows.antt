@@ -1,18 +1,18 @@
--- Marks made input by input, in every output at once: tests that are joined place by place, and the tests of a row of which
--- some edges are done. Assumes nothing.
+-- Marks at one place of every row, made row by row; and marks in every row at once, made place by place until a row is
+-- whole. Assumes nothing.
 use mathlib.Core.Path.{_≡_, refl, sym, ap, _∙_}
 use mathlib.Core.Bool.{Bool, true, false, cond, _||_}
 use mathlib.Core.List.{List, [], _∷_, _++_, append-nil, append-assoc}
-use Prim.Native.Nat.{ℕ, zero, suc, _+_, _-_, _*_, _≤_}
-use native.Mathlib.Nat.{le-of-suc-le-suc, suc-mul}
+use Prim.Native.Nat.{ℕ, zero, suc, _+_, _-_, _*_, _≤_, _<_}
+use native.Mathlib.Nat.{le-of-suc-le-suc}
 use native.Mathlib.Numerals.{add-one}
 use native.Mathlib.Omega.{arith}
-use lib.ListN.{length, drop, length-append}
+use lib.ListN.{length, drop, getD, set, length-append}
 use borrow.Rule.Slice.PartMut.{putMid}
-use Rattle.floats.specs.Sums.{flatTo}
-use Rattle.floats.proofs.Loops.{flat-length}
+use Rattle.floats.specs.Sums.{tabulate, flatTo}
+use Rattle.floats.proofs.Loops.{tab-length, flat-length}
 use Rattle.touched_layer.specs.Marks.{markedBy, nones, inRow}
-use Rattle.touched_layer.proofs.Marking.{marked-part}
+use Rattle.touched_layer.proofs.Marking.{marked-part, marked-one}
 
 -- ---- tests that do not pass
 nones-length : (n : ℕ) → length (nones n) ≡ n
@@ -33,27 +33,52 @@ nones-behind [] n ms = nones-mark n ms
 nones-behind (b ∷ bs) n [] = refl
 nones-behind (b ∷ bs) n (m ∷ ms) = ap (λ (l : List ℕ). cond b 1 m ∷ l) (nones-behind bs n ms)
 
-nones-flat : (s n : ℕ) (ms : List ℕ) → markedBy (flatTo (λ (o : ℕ). nones s) n) ms ≡ ms
+nones-flat : (a b n : ℕ) (ms : List ℕ) → markedBy (flatTo (λ (o : ℕ). nones a ++ nones b) n) ms ≡ ms
 unfolding flatTo markedBy
-nones-flat s zero ms = refl
-nones-flat s (suc n) ms = nones-behind (flatTo (λ (o : ℕ). nones s) n) s ms ∙ nones-flat s n ms
+nones-flat a b zero ms = refl
+nones-flat a b (suc n) ms =
+    let before = flatTo (λ (o : ℕ). nones a ++ nones b) n in
+    rw (← append-assoc before (nones a) (nones b))
+    (nones-behind (before ++ nones a) b ms ∙ nones-behind before a ms ∙ nones-flat a b n ms)
 
--- ---- one input: its edge's tests at the same place of every row
+-- ---- the tests E at the same place of every row
 module _ (from row : ℕ) (E : List Bool) (fit : from + length E ≤ row) where
-  pub row-length : length (inRow from row E) ≡ row
+  row-length : length (inRow from row E) ≡ row
   row-length = simp (length-append, nones-length) (omega arith)
 
-  -- a turn that marks the edge of output o
-  pub one-output : (o : ℕ) (d e y : List ℕ) → e ≡ markedBy (flatTo (λ (q : ℕ). inRow from row E) o) d → o * row + from ≤ length e
-      → y ≡ markedBy E (drop (o * row + from) e)
-      → putMid (o * row + from) (length e - (o * row + from)) e y ≡ markedBy (flatTo (λ (q : ℕ). inRow from row E) (o + 1)) d
+  abbrev rows : ℕ → List Bool
+  rows o = flatTo (λ (q : ℕ). inRow from row E) o
+
+  -- up to the place in the next row
+  up-to-length : (o : ℕ) → length (rows o ++ nones from) ≡ o * row + from
+  up-to-length o = rw (length-append, flat-length (λ (q : ℕ). inRow from row E) row (λ j. row-length) o, nones-length)
+
+  up-to-marks : (o : ℕ) (d e : List ℕ) → e ≡ markedBy (rows o) d → e ≡ markedBy (rows o ++ nones from) d
+  up-to-marks o d e p = p ∙ sym (nones-behind (rows o) from d)
+
+  -- and behind it
+  row-marks : (o : ℕ) (d : List ℕ) → markedBy ((rows o ++ nones from) ++ E) d ≡ markedBy (rows (o + 1)) d
   unfolding flatTo
+  row-marks o d =
+      sym (nones-behind ((rows o ++ nones from) ++ E) (row - (from + length E)) d) ∙ rw (add-one o) (simp append-assoc)
+
+  -- a turn that lends the map from the place in row o on to a call, which marks by E
+  pub one-output : (o : ℕ) (d e y : List ℕ) → e ≡ markedBy (rows o) d → o * row + from ≤ length e
+      → y ≡ markedBy E (drop (o * row + from) e)
+      → putMid (o * row + from) (length e - (o * row + from)) e y ≡ markedBy (rows (o + 1)) d
   one-output o d e y p h q =
-      let before = flatTo (λ (q : ℕ). inRow from row E) o in
-      let size : length (before ++ nones from) ≡ o * row + from =
-      rw (length-append, flat-length (λ (q : ℕ). inRow from row E) row (λ j. row-length) o, nones-length) in
-      marked-part (before ++ nones from) E (o * row + from) d e y (p ∙ sym (nones-behind before from d)) size h q
-      ∙ sym (nones-behind ((before ++ nones from) ++ E) (row - (from + length E)) d) ∙ rw (add-one o) (simp append-assoc)
+      marked-part (rows o ++ nones from) E (o * row + from) d e y (up-to-marks o d e p) (up-to-length o) h q
+      ∙ row-marks o d
+
+-- a turn that sets the byte at the place in row o
+pub one-byte : (at row : ℕ) (b : Bool) → at + 1 ≤ row → (o : ℕ) (d e : List ℕ) (y : ℕ)
+    → e ≡ markedBy (flatTo (λ (q : ℕ). inRow at row (b ∷ [])) o) d → o * row + at < length e
+    → y ≡ cond b 1 (getD e (o * row + at) 0)
+    → set e (o * row + at) y ≡ markedBy (flatTo (λ (q : ℕ). inRow at row (b ∷ [])) (o + 1)) d
+one-byte at row b fit o d e y p h q =
+    marked-one (rows at row (b ∷ []) fit o ++ nones at) b (o * row + at) d e y (up-to-marks at row (b ∷ []) fit o d e p)
+    (up-to-length at row (b ∷ []) fit o) h q
+    ∙ row-marks at row (b ∷ []) fit o d
 
 -- ---- tests joined place by place
 joined : List Bool → List Bool → List Bool
@@ -91,7 +116,8 @@ nones-joined bs zero h = refl
 nones-joined [] (suc n) h = absurd (omega arith)
 nones-joined (b ∷ bs) (suc n) h = ap (λ (l : List Bool). b ∷ l) (nones-joined bs n (le-of-suc-le-suc h))
 
-joined-append : (cs bs cs′ bs′ : List Bool) → length cs ≡ length bs → joined (cs ++ cs′) (bs ++ bs′) ≡ joined cs bs ++ joined cs′ bs′
+joined-append : (cs bs cs′ bs′ : List Bool) → length cs ≡ length bs
+    → joined (cs ++ cs′) (bs ++ bs′) ≡ joined cs bs ++ joined cs′ bs′
 unfolding joined
 joined-append [] [] cs′ bs′ e = refl
 joined-append [] (b ∷ bs) cs′ bs′ e = absurd (omega arith)
@@ -109,45 +135,61 @@ joined-flat s cs bs p q (suc n) =
     (flat-length (λ (o : ℕ). cs) s (λ o. p) n ∙ sym (flat-length (λ (o : ℕ). bs) s (λ o. q) n))
     ∙ ap (λ (l : List Bool). l ++ joined cs bs) (joined-flat s cs bs p q n)
 
--- ---- a row of which i edges of s tests each are done
-abbrev pub doneRow : (ℕ → List Bool) → ℕ → ℕ → ℕ → List Bool
-doneRow E s row i = flatTo E i ++ nones (row - i * s)
+-- ---- the tests of every row, from its place `from` on: none, and cs behind bs
+pub none-in-rows : (from row n : ℕ) (d : List ℕ) → d ≡ markedBy (flatTo (λ (o : ℕ). inRow from row []) n) d
+none-in-rows from row n d = sym (nones-flat from (row - (from + 0)) n d)
 
-module _ (E : ℕ → List Bool) (s row : ℕ) (each : (j : ℕ) → length (E j) ≡ s) (n : ℕ) where
-  done-length : (i : ℕ) → i * s ≤ row → length (doneRow E s row i) ≡ row
-  done-length i h = rw (length-append, flat-length E s each i, nones-length) (omega arith)
+module _ (from row : ℕ) (bs cs : List Bool) (fit : from + length bs + length cs ≤ row) where
+  one-row : joined (inRow from row bs) (inRow (from + length bs) row cs) ≡ inRow from row (bs ++ cs)
+  one-row =
+      let at = from + length bs in
+      let r = row - (at + length cs) in
+      let before : length (nones from ++ bs) ≡ at = rw (length-append, nones-length) in
+      let behind : length (cs ++ nones r) ≡ row - at = rw (length-append, nones-length) (omega arith) in
+      let same : r ≡ row - (from + length (bs ++ cs)) = rw length-append (omega arith) in
+      rw (← append-assoc (nones from) bs (nones (row - at)))
+      (joined-append (nones from ++ bs) (nones at) (nones (row - at)) (cs ++ nones r) (before ∙ sym (nones-length at))
+      ∙ (λ k. joined-nones (nones from ++ bs) at (omega (arith, before)) k
+      ++ nones-joined (cs ++ nones r) (row - at) (omega (arith, behind)) k)
+      ∙ rw (← same) (simp append-assoc))
 
-  -- one edge more
-  done-more : (i : ℕ) → i * s + s ≤ row → joined (doneRow E s row i) (inRow (i * s) row (E i)) ≡ doneRow E s row (i + 1)
-  unfolding flatTo
-  done-more i h =
-      let before = flat-length E s each i in
-      let r = row - (i * s + length (E i)) in
-      let behind : length (E i ++ nones r) ≡ row - i * s = rw (length-append, nones-length, each i) (omega arith) in
-      let left : row - (i * s + length (E i)) ≡ row - suc i * s = rw (each i, suc-mul i s) in
-      joined-append (flatTo E i) (nones (i * s)) (nones (row - i * s)) (E i ++ nones r) (before ∙ sym (nones-length (i * s)))
-      ∙ (λ k. joined-nones (flatTo E i) (i * s) (omega (arith, before)) k
-      ++ nones-joined (E i ++ nones r) (row - i * s) (omega (arith, behind)) k)
-      ∙ sym (append-assoc (flatTo E i) (E i) (nones r)) ∙ rw (add-one i, left)
+  pub more-in-rows : (at n : ℕ) (d e y : List ℕ) → at ≡ from + length bs
+      → e ≡ markedBy (flatTo (λ (o : ℕ). inRow from row bs) n) d
+      → y ≡ markedBy (flatTo (λ (o : ℕ). inRow at row cs) n) e
+      → y ≡ markedBy (flatTo (λ (o : ℕ). inRow from row (bs ++ cs)) n) d
+  more-in-rows at n d e y a p q =
+      let here = inRow from row bs in
+      let next = inRow (from + length bs) row cs in
+      (rw (a, p) at q) ∙ marked-joined (flatTo (λ (o : ℕ). here) n) (flatTo (λ (o : ℕ). next) n) d
+      ∙ ap (λ (l : List Bool). markedBy l d)
+      (joined-flat row here next (row-length from row bs (omega arith)) (row-length (from + length bs) row cs fit) n
+      ∙ ap (λ (l : List Bool). flatTo (λ (o : ℕ). l) n) one-row)
 
-  pub none-done : (d : List ℕ) → d ≡ markedBy (flatTo (λ (o : ℕ). doneRow E s row 0) n) d
-  unfolding flatTo
-  none-done d = sym (nones-flat (row - 0 * s) n d)
+-- one test more of a table
+pub table-in-rows : (t : ℕ → Bool) (from row n k : ℕ) (b : Bool) (d e y : List ℕ) → from + k < row → b ≡ t k
+    → e ≡ markedBy (flatTo (λ (o : ℕ). inRow from row (tabulate t k)) n) d
+    → y ≡ markedBy (flatTo (λ (o : ℕ). inRow (from + k) row (b ∷ [])) n) e
+    → y ≡ markedBy (flatTo (λ (o : ℕ). inRow from row (tabulate t (k + 1))) n) d
+unfolding tabulate
+table-in-rows t from row n k b d e y h a p q =
+    let size : length (tabulate t k) ≡ k = tab-length t k in
+    rw (add-one k, ← a)
+    (more-in-rows from row (tabulate t k) (b ∷ []) (omega arith) (from + k) n d e y (omega arith) p q)
 
-  pub one-input : (i : ℕ) (d e y : List ℕ) → i * s + s ≤ row → e ≡ markedBy (flatTo (λ (o : ℕ). doneRow E s row i) n) d
-      → y ≡ markedBy (flatTo (λ (o : ℕ). inRow (i * s) row (E i)) n) e
-      → y ≡ markedBy (flatTo (λ (o : ℕ). doneRow E s row (i + 1)) n) d
-  one-input i d e y h p q =
-      let fit : i * s + length (E i) ≤ row = rw (each i) h in
-      q ∙ ap (markedBy (flatTo (λ (o : ℕ). inRow (i * s) row (E i)) n)) p
-      ∙ marked-joined (flatTo (λ (o : ℕ). doneRow E s row i) n) (flatTo (λ (o : ℕ). inRow (i * s) row (E i)) n) d
-      ∙ ap (λ (bs : List Bool). markedBy bs d)
-      (joined-flat row (doneRow E s row i) (inRow (i * s) row (E i)) (done-length i (omega arith)) (row-length (i * s) row (E i) fit) n
-      ∙ ap (λ (bs : List Bool). flatTo (λ (o : ℕ). bs) n) (done-more i h))
+-- one list more of those that stand one after the other from the front of a row
+pub flat-in-rows : (E : ℕ → List Bool) (s : ℕ) → ((j : ℕ) → length (E j) ≡ s) → (row n i : ℕ) (d e y : List ℕ)
+    → i * s + s ≤ row
+    → e ≡ markedBy (flatTo (λ (o : ℕ). inRow 0 row (flatTo E i)) n) d
+    → y ≡ markedBy (flatTo (λ (o : ℕ). inRow (i * s) row (E i)) n) e
+    → y ≡ markedBy (flatTo (λ (o : ℕ). inRow 0 row (flatTo E (i + 1))) n) d
+unfolding flatTo
+flat-in-rows E s each row n i d e y h p q =
+    let size : length (flatTo E i) ≡ i * s = flat-length E s each i in
+    rw (add-one i) (more-in-rows 0 row (flatTo E i) (E i) (omega (arith, each i)) (i * s) n d e y (omega arith) p q)
 
-  -- all edges
-  pub all-done : (w : ℕ) → row ≡ w * s → doneRow E s row w ≡ flatTo E w
-  unfolding nones
-  all-done w e =
-      let left : row - w * s ≡ 0 = omega arith in
-      rw left (append-nil (flatTo E w))
+-- tests that fill a row
+pub whole-row : (row : ℕ) (bs : List Bool) → length bs ≡ row → inRow 0 row bs ≡ bs
+unfolding nones
+whole-row row bs e =
+    let left : row - (0 + length bs) ≡ 0 = omega arith in
+    rw left (append-nil bs)

@@ -1,13 +1,9 @@
 -- Marks in a map of bytes; no part of the meaning. Definitions only.
 use Prim.Native.Nat.{ℕ, zero, suc, _+_, _-_}
-use mathlib.Core.Path.{_≡_}
-use mathlib.Core.Bool.{Bool, true, false, cond}
+use mathlib.Core.Bool.{Bool, false, cond}
 use mathlib.Core.List.{List, [], _∷_, _++_}
 use lib.ListN.{length, getD, set}
-use lib.Ieee.{Float}
 use Rattle.local_basis.specs.declared.Eight.{Eight}
-use Rattle.local_basis.specs.declared.Mesh.{Mesh}
-use Rattle.local_basis.specs.Fours.{Both}
 use Rattle.touched_layer.specs.Touched.{touchesBy}
 
 -- the bytes at the front whose parameters are touched become 1, all others stay
@@ -29,10 +25,6 @@ abbrev pub fourMarked : Eight → List ℕ → List ℕ
 fourMarked r ms =
     fourAt (r .values .start) (touchesBy (r .values .first) (r .slopes .first)) (touchesBy (r .values .second) (r .slopes .second))
     (touchesBy (r .values .third) (r .slopes .third)) (touchesBy (r .values .fourth) (r .slopes .fourth)) ms
-
--- what is known of the four values and slopes at x: of a calm mesh, that they are those
-abbrev pub Known : Mesh → Float → Eight → Type 0
-Known m x r = m .calm ≡ true → Both (m .grid) x r
 
 -- n tests that do not pass
 unfoldable pub nones : ℕ → List Bool

@@ -1,16 +1,13 @@
-// The marks of one edge's coefficients: by the four basis values and slopes that can be other than zero, or one by one.
+// Which coefficients an input touches, and their marks in one edge, by the four basis values and slopes that can be
+// other than zero.
 ghost use mathlib.Core.Path.{_≡_};
 ghost use mathlib.Core.Bool.{cond};
-ghost use Prim.Native.Nat.{ℕ, _+_, _≤_, _<_};
+ghost use Prim.Native.Nat.{_+_, _≤_, _<_};
 ghost use lib.ListN.{length};
-ghost use Rattle.floats.specs.Sums.{tabulate};
-ghost use Rattle.local_basis.specs.Meshes.{Meshed};
-ghost use Rattle.layers.specs.Basis.{Basis};
 ghost use Rattle.layers.specs.Net.{basisOf};
 ghost use Rattle.touched_layer.specs.Touched.{touches, touchesBy};
-ghost use Rattle.touched_layer.specs.Marks.{markedBy, markAt, fourMarked, Known};
+ghost use Rattle.touched_layer.specs.Marks.{markAt, fourMarked};
 use local_basis::Eight;
-use local_basis::Mesh;
 use spline::Grid;
 
 // Whether a coefficient of this basis value and this slope is touched: a value may underflow where its slope does not.
@@ -21,32 +18,20 @@ fn touched_by(value: f32, slope: f32) -> bool
 }
 
 // Whether the number x touches coefficient k.
-fn is_touched(grid: Grid, k: usize, x: f32) -> bool
+pub fn is_touched(grid: Grid, k: usize, x: f32) -> bool
     requires { ⌜ (grid .intervals ≤ 250000) × (k < grid .intervals + 3) ⌝ }
     ensures { λ r. ⌜ r ≡ touches (basisOf grid) k x ⌝ }
 {
     touched_by(
-        spline::basis_value(grid, 3, k, x),
+        spline::basis_value(grid, k, x),
         spline::basis_slope(grid, k, x),
     )
 }
 
-fn mark(byte: u8, touched: bool) -> u8
+pub fn mark(byte: u8, touched: bool) -> u8
     ensures { λ r. ⌜ r ≡ cond touched 1 byte ⌝ }
 {
     if touched { 1 } else { byte }
-}
-
-// Every coefficient by itself: where the knots' span is not finite, a value or a slope far from x can be a NaN.
-fn mark_plain(grid: Grid, x: f32, map: &mut [u8])
-    requires { ⌜ (grid .intervals ≤ 250000) × (grid .intervals + 3 ≤ length (now map)) ⌝ }
-    ensures { λ _. ⌜ now (map .exit)
-        ≡ markedBy (tabulate (λ (k : ℕ). touches (basisOf grid) k x) (grid .intervals + 3)) (now (map .entry)) ⌝ }
-{
-    let n = grid.intervals + 3;
-    for k in 0..n {
-        map[k] = mark(map[k], is_touched(grid, k, x));
-    }
 }
 
 // Byte k, by its coefficient's basis value and slope.
@@ -58,7 +43,7 @@ fn mark_at(map: &mut [u8], k: usize, value: f32, slope: f32)
 }
 
 // Four neighbouring bytes.
-fn mark_four(eight: Eight, map: &mut [u8])
+pub fn mark_four(eight: Eight, map: &mut [u8])
     requires { ⌜ eight .values .start + 4 ≤ length (now map) ⌝ }
     ensures { λ _. ⌜ now (map .exit) ≡ fourMarked eight (now (map .entry)) ⌝ }
 {
@@ -69,16 +54,4 @@ fn mark_four(eight: Eight, map: &mut [u8])
     mark_at(map, at + 1, values.second, slopes.second);
     mark_at(map, at + 2, values.third, slopes.third);
     mark_at(map, at + 3, values.fourth, slopes.fourth);
-}
-
-pub fn mark_coefficients(mesh: Mesh, eight: Eight, x: f32, map: &mut [u8])
-    requires { ⌜ Meshed mesh × Known mesh x eight × (mesh .grid .intervals + 3 ≤ length (now map)) ⌝ }
-    ensures { λ _. ⌜ now (map .exit) ≡ markedBy (tabulate (λ (k : ℕ). touches (basisOf (mesh .grid)) k x)
-        (mesh .grid .intervals + 3)) (now (map .entry)) ⌝ }
-{
-    if mesh.calm {
-        mark_four(eight, map);
-    } else {
-        mark_plain(mesh.grid, x, map);
-    }
 }

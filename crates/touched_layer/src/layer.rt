@@ -1,38 +1,72 @@
-// The marks of one layer. The values and slopes at an input are worked out once for all outputs, whose edges that read it
-// lie a row of bytes apart.
+// The marks of one layer. What an input touches is worked out once for all outputs, whose edges that read it lie a row
+// of bytes apart.
 ghost use mathlib.Core.Path.{_≡_};
-ghost use mathlib.Core.List.{_++_};
+ghost use mathlib.Core.Bool.{true};
+ghost use mathlib.Core.List.{[], _∷_, _++_};
 ghost use Prim.Native.Nat.{ℕ, _+_, _*_, _≤_, _<_};
 ghost use lib.ListN.{length, drop};
 ghost use Rattle.floats.specs.Sums.{flatTo};
+ghost use Rattle.local_basis.specs.Fours.{Both};
 ghost use Rattle.local_basis.specs.Meshes.{Meshed};
-ghost use Rattle.layers.specs.Basis.{Basis};
 ghost use Rattle.layers.specs.Net.{basisOf};
 ghost use Rattle.touched_layer.specs.Touched.{edgeTouched, layerTouched, blank};
-ghost use Rattle.touched_layer.specs.Marks.{markedBy, Known, inRow};
-use crate::coefficients::mark_coefficients;
+ghost use Rattle.touched_layer.specs.Marks.{markedBy, inRow};
+use crate::coefficients::is_touched;
+use crate::coefficients::mark;
+use crate::coefficients::mark_four;
 use local_basis::Eight;
 use local_basis::Mesh;
+use spline::Grid;
 
-// What the marks at x go by on a calm mesh. Nothing reads it on another.
-fn eight_at(mesh: Mesh, x: f32) -> Eight
-    requires { ⌜ Meshed mesh ⌝ }
-    ensures { λ r. ⌜ Known mesh x r ⌝ }
-{
-    if mesh.calm {
-        return local_basis::both_at(mesh, x);
-    }
-    local_basis::no_eight()
-}
-
-// An edge that reads x: base weight, spline weight, coefficients.
-fn mark_edge(mesh: Mesh, eight: Eight, x: f32, map: &mut [u8])
-    requires { ⌜ Meshed mesh × Known mesh x eight × (mesh .grid .intervals + 5 ≤ length (now map)) ⌝ }
-    ensures { λ _. ⌜ now (map .exit) ≡ markedBy (edgeTouched (basisOf (mesh .grid)) x) (now (map .entry)) ⌝ }
+// An edge that reads x, by the four values and slopes at x: base weight, spline weight, coefficients. Only the contract
+// speaks of grid and x.
+fn mark_edge(grid: Grid, x: f32, eight: Eight, map: &mut [u8])
+    requires { ⌜ Both grid x eight × (grid .intervals + 5 ≤ length (now map)) ⌝ }
+    ensures { λ _. ⌜ now (map .exit) ≡ markedBy (edgeTouched (basisOf grid) x) (now (map .entry)) ⌝ }
 {
     map[0] = 1;
     map[1] = 1;
-    mark_coefficients(mesh, eight, x, &mut map[2..]);
+    mark_four(eight, &mut map[2..]);
+}
+
+// The edges that read one input, x, in n outputs, on a calm mesh: there the same four can be touched in each of them.
+fn mark_by_four(mesh: Mesh, x: f32, from: usize, row: usize, n: usize, map: &mut [u8])
+    requires { ⌜ Meshed mesh × (mesh .calm ≡ true) × (from + (mesh .grid .intervals + 5) ≤ row)
+        × (n * row ≤ length (now map)) ⌝ }
+    ensures { λ _. ⌜ now (map .exit) ≡ markedBy (flatTo (λ (o : ℕ). inRow from row
+        (edgeTouched (basisOf (mesh .grid)) x)) n) (now (map .entry)) ⌝ }
+{
+    let eight = local_basis::both_at(mesh, x);
+    for o in 0..n {
+        let at = o * row + from;
+        mark_edge(mesh.grid, x, eight, &mut map[at..]);
+    }
+}
+
+// The byte at one place of each of n rows.
+fn mark_column(touched: bool, at: usize, row: usize, n: usize, map: &mut [u8])
+    requires { ⌜ (at < row) × (n * row ≤ length (now map)) ⌝ }
+    ensures { λ _. ⌜ now (map .exit)
+        ≡ markedBy (flatTo (λ (r : ℕ). inRow at row (touched ∷ [])) n) (now (map .entry)) ⌝ }
+{
+    for r in 0..n {
+        let p = r * row + at;
+        map[p] = mark(map[p], touched);
+    }
+}
+
+// The same edges on any mesh, parameter by parameter. Where the knots' span is not finite, a value or a slope far from
+// x can be a NaN: so every coefficient is tested, once for all outputs.
+fn mark_one_by_one(grid: Grid, x: f32, from: usize, row: usize, n: usize, map: &mut [u8])
+    requires { ⌜ (grid .intervals ≤ 250000) × (from + (grid .intervals + 5) ≤ row) × (n * row ≤ length (now map)) ⌝ }
+    ensures { λ _. ⌜ now (map .exit) ≡ markedBy (flatTo (λ (o : ℕ). inRow from row
+        (edgeTouched (basisOf grid) x)) n) (now (map .entry)) ⌝ }
+{
+    mark_column(true, from, row, n, map);
+    mark_column(true, from + 1, row, n, map);
+    for k in 0..grid.intervals + 3 {
+        mark_column(is_touched(grid, k, x), from + 2 + k, row, n, map);
+    }
 }
 
 // The edges that read one input, x, in n outputs: each `from` bytes behind the first of its row.
@@ -41,10 +75,10 @@ fn mark_input(mesh: Mesh, x: f32, from: usize, row: usize, n: usize, map: &mut [
     ensures { λ _. ⌜ now (map .exit) ≡ markedBy (flatTo (λ (o : ℕ). inRow from row
         (edgeTouched (basisOf (mesh .grid)) x)) n) (now (map .entry)) ⌝ }
 {
-    let eight = eight_at(mesh, x);
-    for o in 0..n {
-        let at = o * row + from;
-        mark_edge(mesh, eight, x, &mut map[at..]);
+    if mesh.calm {
+        mark_by_four(mesh, x, from, row, n, map);
+    } else {
+        mark_one_by_one(mesh.grid, x, from, row, n, map);
     }
 }
 

@@ -40,30 +40,27 @@ add-knot-at-3 c = search needs
 knot-at-requires-6 : tie.Need-knot-at-requires-6
 knot-at-requires-6 c κs = search needs
 
-portion-requires : tie.Need-portion-requires
-portion-requires c κs = search needs
+falling-requires : tie.Need-falling-requires
+falling-requires c κs = search needs
 
-portion-requires-2 : tie.Need-portion-requires-2
-portion-requires-2 c κs = search needs
+rising-requires : tie.Need-rising-requires
+rising-requires c κs = search needs
 
-portion-requires-3 : tie.Need-portion-requires-3
-portion-requires-3 c κs = search needs
+falling-requires-2 : tie.Need-falling-requires-2
+falling-requires-2 c κs = search needs
 
-portion-requires-4 : tie.Need-portion-requires-4
-portion-requires-4 c κs = search needs
+blend-requires : tie.Need-blend-requires
+blend-requires c κs = search needs
 
-portion-requires-5 : tie.Need-portion-requires-5
-portion-requires-5 c κs = search needs
-
-portion-requires-6 : tie.Need-portion-requires-6
-portion-requires-6 c κs = search needs
+rising-requires-2 : tie.Need-rising-requires-2
+rising-requires-2 c κs = search needs
 
 returns : tie.Need-returns
 unfolding squareLow squareMiddle squareHigh
 returns c =
-    let at-portion2 = c .before .before .before .before in
-    let at-portion = at-portion2 .before in
-    let at-knot6 = at-portion .before in
+    let at-high = c .before .before .before in
+    let at-low = at-high .before in
+    let at-knot6 = at-low .before in
     let at-knot5 = at-knot6 .before in
     let at-knot4 = at-knot5 .before in
     let at-knot3 = at-knot4 .before in
@@ -79,10 +76,10 @@ returns c =
     let k3 = at-knot3 .knot-at3 .ensures in
     let k4 = at-knot4 .knot-at4 .ensures in
     let k5 = at-knot5 .knot-at5 .ensures in
-    let low : at-portion .portion .result ≡ linearLow (a .mesh .grid) (a .at) (a .x) =
-    rw (at-portion .portion .ensures, k4, k3) in
-    let high : at-portion2 .portion2 .result ≡ linearHigh (a .mesh .grid) (a .at) (a .x) =
-    rw (at-portion2 .portion2 .ensures, k4, k3) in
+    let low : at-low .falling .result ≡ linearLow (a .mesh .grid) (a .at) (a .x) =
+    rw (at-low .falling .ensures, k4, k3) in
+    let high : at-high .rising .result ≡ linearHigh (a .mesh .grid) (a .at) (a .x) =
+    rw (at-high .rising .ensures, k4, k3) in
     record {
       k1 = k1;
       k2 = k2;
@@ -90,9 +87,9 @@ returns c =
       k4 = k4;
       k5 = k5;
       k6 = at-knot6 .knot-at6 .ensures;
-      low = rw (c .before .before .before .portion3 .ensures, low, k4, k2);
-      middle = rw (c .before .before .portion4 .ensures, c .before .portion5 .ensures, low, high, k2, k4, k5, k3);
-      high = rw (c .portion6 .ensures, high, k5, k3);
+      low = rw (c .before .before .falling2 .ensures, low, k4, k2);
+      middle = rw (c .before .blend .ensures, low, high, k2, k4, k5, k3);
+      high = rw (c .rising2 .ensures, high, k5, k3);
     }
 
 pub squares-of-spec : {M : Type 1} → statement M
@@ -110,10 +107,9 @@ squares-of-spec =
     knot-at-requires-5
     add-knot-at-3
     knot-at-requires-6
-    portion-requires
-    portion-requires-2
-    portion-requires-3
-    portion-requires-4
-    portion-requires-5
-    portion-requires-6
+    falling-requires
+    rising-requires
+    falling-requires-2
+    blend-requires
+    rising-requires-2
     returns)

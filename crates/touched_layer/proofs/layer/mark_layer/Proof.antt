@@ -1,5 +1,5 @@
--- `touched_layer::layer::mark_layer` meets its contract: after i turns the edges that read i inputs are marked. Assumes nothing.
-use mathlib.Core.Path.{_≡_, refl, ap, _∙_}
+-- `touched_layer::layer::mark_layer` meets its contract: after i turns i inputs' edges are marked. Assumes nothing.
+use mathlib.Core.Path.{_≡_, ap, _∙_}
 use mathlib.Core.Bool.{Bool}
 use mathlib.Core.List.{List}
 use Prim.Native.Nat.{ℕ, _+_, _*_, _-_, _≤_}
@@ -12,10 +12,10 @@ use Rattle.floats.proofs.Loops.{room, row-room}
 use Rattle.spline.specs.declared.Grid.{Grid}
 use Rattle.layers.specs.Net.{basisOf}
 use Rattle.touched_layer.specs.Touched.{edgeTouched, nodeTouched, layerTouched}
-use Rattle.touched_layer.specs.Marks.{markedBy}
+use Rattle.touched_layer.specs.Marks.{markedBy, inRow}
 use Rattle.touched_layer.proofs.Marking.{marked-size}
-use Rattle.touched_layer.proofs.Rows.{doneRow, none-done, one-input, all-done}
-use Rattle.touched_layer.proofs.Layers.{edge-length}
+use Rattle.touched_layer.proofs.Rows.{none-in-rows, flat-in-rows, whole-row}
+use Rattle.touched_layer.proofs.Layers.{edge-length, node-length}
 use Rattle.touched_layer.proofs.layer.mark_layer.Statement.{statement}
 use Rattle.touched_layer.proofs.layer.mark_layer.Tie as tie
 
@@ -24,7 +24,7 @@ abbrev edges : Grid → List Float → ℕ → List Bool
 edges g xs j = edgeTouched (basisOf g) (at xs j)
 
 abbrev rowDone : Grid → List Float → ℕ → List Bool
-rowDone g xs i = doneRow (edges g xs) (g .intervals + 5) (length xs * (g .intervals + 5)) i
+rowDone g xs i = inRow 0 (length xs * (g .intervals + 5)) (flatTo (edges g xs) i)
 
 abbrev Inv-loop : tie.InvT-loop
 Inv-loop mesh inputs n map₀ stride row i₀ i-end map i =
@@ -52,12 +52,14 @@ size c = marked-size _ _ _ (c .loop .inv .1)
 
 -- the edge lies in its row
 inside : (c : tie.In-loop Inv-loop μ-loop)
-    → head c .loop .i * (entry (head c) .args .mesh .grid .intervals + 5) + (entry (head c) .args .mesh .grid .intervals + 5)
+    → head c .loop .i * (entry (head c) .args .mesh .grid .intervals + 5)
+    + (entry (head c) .args .mesh .grid .intervals + 5)
     ≤ length (entry (head c) .args .inputs .now) * (entry (head c) .args .mesh .grid .intervals + 5)
 inside c = room (head c .loop .i) (length (entry (head c) .args .inputs .now)) _ _ (c .loop-test .taken) (le-refl _)
 
 -- a row lies in the map
-row-in : (c : tie.Start Inv-loop μ-loop) → length (c .args .inputs .now) * (c .args .mesh .grid .intervals + 5) ≤ length (c .args .map .now)
+row-in : (c : tie.Start Inv-loop μ-loop)
+    → length (c .args .inputs .now) * (c .args .mesh .grid .intervals + 5) ≤ length (c .args .map .now)
 row-in c = row-room _ _ _ (c .pre .1) (c .pre .2)
 
 -- ---- the needs
@@ -68,9 +70,8 @@ mul-row : tie.Need-mul-row Inv-loop μ-loop
 mul-row c = let s = lent c in omega (arith, row-in s, s .good)
 
 loop-holds : tie.Need-loop-holds Inv-loop μ-loop
-loop-holds c =
-    let s = lent c in
-    (omega arith, none-done (edges (s .args .mesh .grid) (s .args .inputs .now)) _ _ (λ j. edge-length _ _) (s .args .n) _)
+unfolding flatTo
+loop-holds c = (omega arith, none-in-rows 0 _ (lent c .args .n) _)
 
 mul-mark-input : tie.Need-mul-mark-input Inv-loop μ-loop
 mul-mark-input c = let s = entry (head c) in omega (arith, inside c, row-in s, s .good)
@@ -97,10 +98,11 @@ loop-again : tie.Need-loop-again Inv-loop μ-loop
 loop-again c =
     let m = c .before .before in
     let t = turn m in
-    let s = entry (head t) in (
+    let h = head t in
+    let a = entry h .args in (
       omega arith,
-      one-input (edges (s .args .mesh .grid) (s .args .inputs .now)) _ _ (λ j. edge-length _ _) (s .args .n) (head t .loop .i) _ _ _ (inside t)
-          (head t .loop .inv .1) (m .mark-input .ensures),
+      flat-in-rows (edges (a .mesh .grid) (a .inputs .now)) _ (λ j. edge-length _ _) _ (a .n) (h .loop .i) _ _ _
+          (inside t) (h .loop .inv .1) (m .mark-input .ensures),
     )
 
 same-length : tie.Need-same-length Inv-loop μ-loop
@@ -110,11 +112,12 @@ returns : tie.Need-returns Inv-loop μ-loop
 unfolding layerTouched nodeTouched
 returns c =
     let h = c .before in
-    let s = entry h in
-    let all : h .loop .i ≡ length (s .args .inputs .now) = omega arith in
+    let a = entry h .args in
+    let all : h .loop .i ≡ length (a .inputs .now) = omega arith in
     (rw all at (h .loop .inv .1))
-    ∙ ap (λ (bs : List Bool). markedBy (flatTo (λ (o : ℕ). bs) (s .args .n)) (s .args .map .now))
-    (all-done (edges (s .args .mesh .grid) (s .args .inputs .now)) _ _ (λ j. edge-length _ _) (s .args .n) (length (s .args .inputs .now)) refl)
+    ∙ ap (λ (bs : List Bool). markedBy (flatTo (λ (o : ℕ). bs) (a .n)) (a .map .now))
+    (whole-row _ (nodeTouched (basisOf (a .mesh .grid)) (a .inputs .now))
+    (node-length (a .mesh .grid) (a .inputs .now)))
 
 pub mark-layer-spec : {M : Type 1} → statement M
 mark-layer-spec =

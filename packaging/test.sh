@@ -1,7 +1,8 @@
 #!/usr/bin/env bash
 # Installs into a fresh folder, moves it, and builds against it: the examples by pkg-config, by CMake, and with the archive
-# inside a shared object, which must print the same and write the same image; every call on a fibre of 4 KiB; what must not
-# compile; versions; and uninstalling. All folders have a space in their names. `make test-install` runs it.
+# inside a shared object, which must print the same and write the same image; every call on a fibre of the size that
+# estimator.h promises, ESTIMATOR_STACK_BYTES; what must not compile; versions; and uninstalling. All folders have a space
+# in their names. `make test-install` runs it.
 set -euo pipefail
 cd "$(dirname "$0")/.."
 
@@ -166,8 +167,12 @@ done
 tail -n 2 "$work/by-pkg-config.run/output.txt"
 tail -n 3 "$work/by-pkg-config.run/builders.txt"
 
+stack=$(sed -nE 's/^#define ESTIMATOR_STACK_BYTES ([0-9]+)$/\1/p' "$prefix/include/estimator.h")
+[ -n "$stack" ] || stop "estimator.h does not say ESTIMATOR_STACK_BYTES"
+echo "along the calls of the installed archive"
+scripts/stack.sh "$prefix/lib/libestimator.a" | tail -n 1
 for compiler in "${compilers[@]}"; do
-    echo "a fibre of 4 KiB, functions bound as late as can be, bytes of stack ($compiler)"
+    echo "a fibre of $stack bytes, functions bound as late as can be, bytes of stack ($compiler)"
     by_pkg_config "$compiler" -std=c++17 -O2 -Wall -Wextra -Werror packaging/fibre.cpp -Wl,-z,lazy -o "$work/fibre"
     "$work/fibre"
 done
@@ -192,4 +197,4 @@ left=$(cd "$stage" && find . -type f)
 [ ! -e "$stage/usr/share/doc/estimator" ] && [ ! -e "$stage/usr/lib/x86_64-linux-gnu/cmake/estimator" ] ||
     stop "uninstalling leaves folders of its own"
 
-echo "test-install: both examples agree in all three ways, every call fits a fibre of 4 KiB, version $version"
+echo "test-install: both examples agree in all three ways, every call fits a fibre of $stack bytes, version $version"

@@ -1,7 +1,7 @@
 #!/usr/bin/env bash
 # Copies the archive that the compiler wrote and has its calls of the C library bound when a program is loaded:
 #   scripts/bind.sh FROM.a TO.a
-# A plain call is bound at its first use, on the caller's stack, and for that the loader needs more than a fibre of 4 KiB
+# A plain call is bound at its first use, on the caller's stack, and for that the loader needs more than a small fibre
 # has. So memset and memcpy (and memmove, should the compiler ever call it) get names of their own inside the archive, and
 # under each stands one jump through a pointer which the loader always fills beforehand. The code stays as it was
 # proved, but for the names; packaging/test.sh compares.

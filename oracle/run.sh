@@ -68,7 +68,7 @@ case $program in
         ;;
     images) need_calls kan_image_read ;;
     npy) need_calls kan_npy_write kan_npy_read ;;
-    bench) need_calls kan_train kan_accumulate kan_apply ;;
+    bench) need_calls kan_predict kan_train_step kan_accumulate kan_apply kan_visits ;;
     *) stop "name a program: self-test, lists, leaves, calls, training, chains, images, npy, visits, unmarked or bench" 2 ;;
 esac
 shift

@@ -1,7 +1,8 @@
 //! Times three programs on the same inputs, in turns: the ported Rust, the proved library
 //! (`libestimator.a`) and the fast algorithm written by hand (`bench/handwritten.cpp`). In turns
 //! too: the library's training step, and the two calls that make the same step. All answers are
-//! compared bit by bit. Prints Markdown tables.
+//! compared bit by bit. With `--wide 1` it times the first two instead, on domains where the
+//! library cannot go by four basis values of an edge. Prints Markdown tables.
 
 use kan_oracle::arguments;
 use kan_oracle::draws::Draws;
@@ -18,6 +19,15 @@ const RATE: f32 = 0.05;
 const FEWEST_TURNS: usize = 3;
 const SHAPES: [&[usize]; 3] = [&[8, 16, 1], &[4, 8, 8, 1], &[1, 1]];
 const GRIDS: [usize; 4] = [5, 16, 64, 256];
+// Knots that are all finite and span more than the largest float: (g + 3) steps are finite, (g + 6) are
+// not. On wider domains the last knot is infinite, and every row inside the knots is refused with 20.
+const WIDE: [(&[usize], usize, [f32; 2]); 5] = [
+    (&[1, 1], 1, [0.0, 8e37]),
+    (&[1, 1], 5, [-1e38, 1e38]),
+    (&[8, 16, 1], 5, [-1e38, 1e38]),
+    (&[8, 16, 1], 16, [-1.4e38, 1.4e38]),
+    (&[8, 16, 1], 256, [-1.67e38, 1.67e38]),
+];
 const HEAD: &str = concat!(
     "| shape | g | edges | Rust, ns a row | library | by hand | Rust, ns an edge | library | by hand ",
     "| Rust/library | library/by hand | bits |"
@@ -26,6 +36,12 @@ const HEAD: &str = concat!(
 const SPLIT_HEAD: &str = concat!(
     "| shape | g | edges | train_step, ns a row | accumulate | apply | accumulate, ns an edge ",
     "| accumulate/(train_step - apply) | (accumulate + apply)/train_step | bits |"
+);
+
+// Without the algorithm by hand, which would lose refusals on these domains.
+const WIDE_HEAD: &str = concat!(
+    "| shape | g | edges | Rust, ns a row | library | Rust, ns an edge | library ",
+    "| Rust/library | bits |"
 );
 
 mod linked {
@@ -103,6 +119,25 @@ mod linked {
             rate: f32,
             carried: *mut usize,
         ) -> u32;
+
+        pub fn kan_visits(
+            widths: *const usize,
+            widths_len: usize,
+            intervals: usize,
+            lo: f32,
+            hi: f32,
+            model: *const f32,
+            model_len: usize,
+            inputs: *const f32,
+            inputs_len: usize,
+            first: *mut f32,
+            first_len: usize,
+            second: *mut f32,
+            second_len: usize,
+            map: *mut u8,
+            map_len: usize,
+            carried: *mut usize,
+        ) -> u32;
     }
 
     #[link(name = "handwritten", kind = "static")]
@@ -153,17 +188,32 @@ struct Case {
     gradients: Vec<f32>,
     work: Vec<f32>,
     outputs: Vec<f32>,
+    map: Vec<u8>,
+}
+
+/// The grid of all tables but those of wide knots.
+fn ordinary_grid(intervals: usize) -> Grid {
+    Grid::new(intervals, -1.0, 1.0)
+}
+
+/// A grid of `WIDE`. Stops the program unless its knots are finite and their span, in f32, is not.
+fn wide_grid(intervals: usize, domain: [f32; 2]) -> Grid {
+    let grid = Grid::new(intervals, domain[0], domain[1]);
+    let knots = grid.knots();
+    let finite = knots.iter().all(|knot| knot.is_finite());
+    let span = knots[knots.len() - 1] - knots[0];
+    assert!(finite && span == f32::INFINITY, "not wide: {grid:?}");
+    grid
 }
 
 impl Case {
-    fn new(widths: &[usize], intervals: usize, rows: usize) -> Self {
+    fn new(widths: &[usize], grid: Grid, rows: usize) -> Self {
         let mut draws = Draws::new(7);
         let mut some =
             |count: usize| -> Vec<f32> { (0..count).map(|_| draws.between(-1.2, 1.2)).collect() };
         let edges: usize = widths.windows(2).map(|ends| ends[0] * ends[1]).sum();
-        let grid = Grid::new(intervals, -1.0, 1.0);
         let (ins, outs) = (widths[0], widths[widths.len() - 1]);
-        let model: Vec<f32> = some(edges * (intervals + 5));
+        let model: Vec<f32> = some(edges * (grid.intervals + 5));
         // Small enough that hidden nodes stay near the domain.
         let model: Vec<f32> = model.iter().map(|x| x / ins as f32).collect();
         let (inputs, targets) = (some(rows * ins), some(rows * outs));
@@ -178,6 +228,7 @@ impl Case {
             gradients: vec![0.0; model.len()],
             work: vec![0.0; 2 * nodes],
             outputs: vec![0.0; rows * outs],
+            map: vec![0; model.len()],
             widths: widths.to_vec(),
             grid,
             model,
@@ -410,14 +461,46 @@ fn apply_of_two(case: &mut Case) -> (Duration, Vec<f32>) {
     apply(case)
 }
 
+/// The numbers are the map's bytes.
+fn visits_of_library(case: &mut Case) -> (Duration, Vec<f32>) {
+    let mut carried = 0;
+    let start = own_time();
+    // Every buffer is lent with its own length.
+    let number = unsafe {
+        linked::kan_visits(
+            case.widths.as_ptr(),
+            case.widths.len(),
+            case.grid.intervals,
+            case.grid.lo,
+            case.grid.hi,
+            case.model.as_ptr(),
+            case.model.len(),
+            case.inputs.as_ptr(),
+            case.inputs.len(),
+            case.first.as_mut_ptr(),
+            case.first.len(),
+            case.second.as_mut_ptr(),
+            case.second.len(),
+            case.map.as_mut_ptr(),
+            case.map.len(),
+            &mut carried,
+        )
+    };
+    let time = own_time() - start;
+    assert_eq!(number, 0, "kan_visits refused");
+    (time, case.map.iter().copied().map(f32::from).collect())
+}
+
 const SPLIT: [Call; 3] = [train_of_library, accumulate_of_two, apply_of_two];
 const PREDICT: [Call; 3] = [predict_of_rust, predict_of_library, predict_by_hand];
 const TRAIN: [Call; 3] = [train_of_rust, train_of_library, train_by_hand];
+const WIDE_PREDICT: [Call; 2] = [predict_of_rust, predict_of_library];
+const WIDE_TRAIN: [Call; 2] = [train_of_rust, train_of_library];
 
 /// The shortest time of each program, in nanoseconds, and whether all answers had the same bits.
-fn timed(case: &mut Case, calls: [Call; 3], time: Duration) -> ([f64; 3], bool) {
+fn timed<const N: usize>(case: &mut Case, calls: [Call; N], time: Duration) -> ([f64; N], bool) {
     let start = Instant::now();
-    let mut shortest = [f64::INFINITY; 3];
+    let mut shortest = [f64::INFINITY; N];
     let mut alike = true;
     let mut turns = 0;
     while turns < FEWEST_TURNS || start.elapsed() < time {
@@ -433,6 +516,14 @@ fn timed(case: &mut Case, calls: [Call; 3], time: Duration) -> ([f64; 3], bool) 
     (shortest, alike)
 }
 
+fn verdict(alike: bool) -> &'static str {
+    if alike {
+        "same"
+    } else {
+        "DIFFERENT"
+    }
+}
+
 struct Bench {
     time: Duration,
     alike: bool,
@@ -446,7 +537,7 @@ impl Bench {
     }
 
     fn line(&mut self, widths: &[usize], intervals: usize, rows: usize, calls: [Call; 3]) {
-        let mut case = Case::new(widths, intervals, rows);
+        let mut case = Case::new(widths, ordinary_grid(intervals), rows);
         let (times, alike) = timed(&mut case, calls, self.time);
         let [rust, proved, hand] = times.map(|time| time / case.rows() as f64);
         let edges = case.edges() as f64;
@@ -457,7 +548,7 @@ impl Bench {
             hand / edges,
             rust / proved,
             proved / hand,
-            if alike { "same" } else { "DIFFERENT" }
+            verdict(alike)
         );
         self.alike &= alike;
     }
@@ -483,7 +574,7 @@ impl Bench {
     }
 
     fn split_line(&mut self, widths: &[usize], intervals: usize) {
-        let mut case = Case::new(widths, intervals, TRAINED_ROWS);
+        let mut case = Case::new(widths, ordinary_grid(intervals), TRAINED_ROWS);
         let (times, alike) = timed(&mut case, SPLIT, self.time);
         let [step, gathered, applied] = times.map(|time| time / case.rows() as f64);
         let edges = case.edges() as f64;
@@ -493,7 +584,7 @@ impl Bench {
             gathered / edges,
             gathered / (step - applied),
             (gathered + applied) / step,
-            if alike { "same" } else { "DIFFERENT" }
+            verdict(alike)
         );
         self.alike &= alike;
     }
@@ -508,44 +599,117 @@ impl Bench {
             self.line(&vec![8; layers + 1], 5, PREDICTED_ROWS, PREDICT);
         }
     }
+
+    fn ordinary_tables(&mut self, training: bool) {
+        self.shapes("Prediction of 256 rows", PREDICTED_ROWS, PREDICT);
+        if training {
+            self.shapes("One training step on 64 rows", TRAINED_ROWS, TRAIN);
+            self.split();
+        }
+        self.growth();
+    }
+
+    fn wide_tables(&mut self, training: bool) {
+        self.wide_shapes("Prediction of 256 rows", PREDICTED_ROWS, WIDE_PREDICT);
+        if training {
+            self.wide_shapes("One training step on 64 rows", TRAINED_ROWS, WIDE_TRAIN);
+        }
+        self.wide_visits();
+        print!("\nThe domains of these tables:");
+        for (widths, intervals, domain) in WIDE {
+            print!(" {widths:?} g {intervals} {domain:?};");
+        }
+        println!(" inputs from -1.2 to 1.2.");
+    }
+
+    fn wide_shapes(&mut self, title: &str, rows: usize, calls: [Call; 2]) {
+        println!("\n{title}, knots that span more than the largest float\n\n{WIDE_HEAD}");
+        println!("|---|---|---|---|---|---|---|---|---|");
+        for (widths, intervals, domain) in WIDE {
+            let mut case = Case::new(widths, wide_grid(intervals, domain), rows);
+            let (times, alike) = timed(&mut case, calls, self.time);
+            let [rust, proved] = times.map(|time| time / case.rows() as f64);
+            let edges = case.edges() as f64;
+            println!(
+                "| {widths:?} | {intervals} | {edges} | {rust:.0} | {proved:.0} | {:.1} | {:.1} | {:.2} | {} |",
+                rust / edges,
+                proved / edges,
+                rust / proved,
+                verdict(alike)
+            );
+            self.alike &= alike;
+        }
+    }
+
+    /// The library alone: the Rust has no visit map.
+    fn wide_visits(&self) {
+        println!("\nThe visit map of 64 rows, knots that span more than the largest float\n");
+        println!("| shape | g | edges | library, ns a row | library, ns an edge |");
+        println!("|---|---|---|---|---|");
+        for (widths, intervals, domain) in WIDE {
+            let mut case = Case::new(widths, wide_grid(intervals, domain), TRAINED_ROWS);
+            let ([time], _) = timed(&mut case, [visits_of_library], self.time);
+            let (edges, row) = (case.edges() as f64, time / case.rows() as f64);
+            println!(
+                "| {widths:?} | {intervals} | {edges} | {row:.0} | {:.1} |",
+                row / edges
+            );
+        }
+    }
 }
 
 /// Each call once on a few rows of [8, 16, 1], for an instruction counter.
-fn once(intervals: usize, rows: usize, training: u64) -> ExitCode {
-    let mut case = Case::new(&[8, 16, 1], intervals, rows);
-    let calls: &[Call] = match training {
-        0 => &PREDICT,
-        1 => &TRAIN,
-        _ => &[train_of_library, accumulate_of_two],
-    };
+fn once(grid: Grid, rows: usize, calls: &[Call]) -> ExitCode {
+    let mut case = Case::new(&[8, 16, 1], grid, rows);
     for call in calls {
         black_box(call(&mut case));
     }
     ExitCode::SUCCESS
 }
 
+fn once_ordinary(intervals: usize, rows: usize, training: u64) -> ExitCode {
+    let calls: &[Call] = match training {
+        0 => &PREDICT,
+        1 => &TRAIN,
+        _ => &[train_of_library, accumulate_of_two],
+    };
+    once(ordinary_grid(intervals), rows, calls)
+}
+
+fn once_wide(intervals: usize, rows: usize, training: u64) -> ExitCode {
+    let calls: &[Call] = match training {
+        0 => &WIDE_PREDICT,
+        1 => &WIDE_TRAIN,
+        _ => &[visits_of_library],
+    };
+    let known = WIDE.iter().find(|(_, g, _)| *g == intervals);
+    let (_, _, domain) = known.expect("a wide domain is chosen for this g");
+    once(wide_grid(intervals, *domain), rows, calls)
+}
+
 fn main() -> ExitCode {
-    let [milliseconds, training, intervals, rows] = arguments::numbers([
+    let [milliseconds, training, wide, intervals, rows] = arguments::numbers([
         ("--milliseconds", 400),
         ("--training", 1),
+        ("--wide", 0),
         ("--once-intervals", 0),
         ("--once-rows", 16),
     ]);
     // First of all: it also has E's table made.
     demand_e();
     if intervals > 0 {
+        let once = if wide == 1 { once_wide } else { once_ordinary };
         return once(intervals as usize, rows as usize, training);
     }
     let mut bench = Bench {
         time: Duration::from_millis(milliseconds),
         alike: true,
     };
-    bench.shapes("Prediction of 256 rows", PREDICTED_ROWS, PREDICT);
-    if training == 1 {
-        bench.shapes("One training step on 64 rows", TRAINED_ROWS, TRAIN);
-        bench.split();
+    if wide == 1 {
+        bench.wide_tables(training == 1);
+    } else {
+        bench.ordinary_tables(training == 1);
     }
-    bench.growth();
     if bench.alike {
         ExitCode::SUCCESS
     } else {

@@ -9,7 +9,9 @@ import tempfile
 from collections import namedtuple
 from pathlib import Path
 
-from stack import RED_ZONE, verdict
+from stack import verdict
+
+RED_ZONE = 128  # by the ABI; written out, so that another number in stack.py is noticed
 
 # Name -> assembly. Each figure is reckoned by hand in STRAIGHT_FIGURES.
 STRAIGHT = {
@@ -43,7 +45,7 @@ uint32_t kan_many(const size_t *a, size_t b, float c, float d, float e, double f
                   int p[2], size_t q);
 #define NOT_A_PROTOTYPE \\
     uint32_t kan_macro(void);
-uint32_t kan_seven(size_t a, size_t b, size_t c, size_t d, size_t e, size_t f, float *g);
+uint32_t kan_seven(size_t a, size_t b, size_t c, size_t d, size_t e, size_t f, float g[4]);
 uint32_t kan_bound(void); uint32_t kan_second(void);
 """
 STRAIGHT_FIGURES = [
@@ -53,7 +55,7 @@ STRAIGHT_FIGURES = [
     "kan_callee 104: kan_callee 64 > leaf 40",  # 8, two pushes, 0x28; 8, push 8, and 0x18 of the red zone
     "kan_many 40: arguments 32 > kan_many 8",  # the 7th and 8th integer, the 9th float: 24, so 32; and 8
     "kan_second 32: kan_second 8 > second 24",  # 8; 8 and two pushes
-    "kan_seven 32: arguments 16 > kan_seven 16",  # the 7th, a pointer: 8, so 16; 8, push 8
+    "kan_seven 32: arguments 16 > kan_seven 16",  # the 7th, an array and so a pointer: 8, so 16; 8, push 8
     "stack: nothing in small.a calls itself; the deepest of 7 calls takes 264 of the 264 bytes promised",
 ]
 # Assembly of a call -> its bytes, with the 8 of the return address.
@@ -73,6 +75,7 @@ SINGLE = {
     "lea -8(%rsp),%rax; 1: mov (%rax),%rcx; dec %rcx; jne 1b; add $8,%al; ret": 8 + RED_ZONE,
     "lea -8(%rsp),%rsi; mov %rax,(%rsi,%rdi,8); ret": 8 + RED_ZONE,
     "lea -8(%rsp),%r8; lea (%r8),%rdi; ret": 8 + RED_ZONE,
+    "lea -8(%rsp),%r8; inc %r8d; ret": 8 + RED_ZONE,
     "lea -8(%rsp,%rdi,8),%rax; mov (%rax),%rcx; ret": 8 + RED_ZONE,
     "push %rsp; pop %rax; mov -8(%rax),%rax; ret": 8 + 8 + RED_ZONE,
     "push %rax; lea -8(%rsp),%rdi; pop %rax; jmp even": 8 + 8 + 8,
@@ -90,6 +93,7 @@ UNCLEAR = {
     "xchg %rsp,%rax; ret": NOT_FOLLOWED,
     "xadd %rsp,%rax; ret": NOT_FOLLOWED,
     "sub (%rdi),%rsp; ret": NOT_FOLLOWED,
+    "mov 8(%rsp),%rsp; ret": NOT_FOLLOWED,
     "lea (%rsp,%rdi),%rsp; ret": NOT_FOLLOWED,
     "sub $8,%esp; ret": NOT_FOLLOWED,
     "inc %rsp; ret": NOT_FOLLOWED,
@@ -117,6 +121,7 @@ UNCLEAR = {
     "push %rax; jmp kan_one": "leaves the function with 8 bytes on the stack",
     "inc %rax": "runs past the end of the function",
     "jmp beside+1": ".text.beside+0x1 is not the beginning of one function of the archive",
+    "jmp memset+1": "memset+0x1 is not the beginning of one function of the archive",
     "call 1f; 1: pop %rax; ret": ".text.{name}+0x5 is not the beginning of one function of the archive",
 }
 
@@ -204,10 +209,21 @@ FAILING = [
         "cannot tell: .text.stray of member0.o begins with code of no function",
     ),
     case(
+        "code before a section's first function",
+        [{**SIMPLE, "even": 'ret; .section .text.late,"ax",@progbits; ret; .type late,@function; late: ret'}],
+        "cannot tell: .text.late of member0.o begins with code of no function",
+    ),
+    case(
         "a struct as argument",
         [SIMPLE],
         "cannot tell how 'struct pair a' is passed",
         prototypes="uint32_t kan_one(struct pair a);",
+    ),
+    case(
+        "a struct as result",
+        [SIMPLE],
+        "cannot tell how 'struct pair' is passed",
+        prototypes="struct pair kan_one(size_t a);",
     ),
     case(
         "a long double",

@@ -1,4 +1,6 @@
 // Inner crate: the checks that every call on a model makes first. Each takes all arguments.
+#![tactic(auto)]
+
 ghost use Rattle.std.specs.Prelude.{◌≡◌};
 ghost use Rattle.config.specs.Config.{sizes_of, checked_of};
 ghost use Rattle.admission.specs.Admission.{up_to8, up_to9, up_to9_for_nodes, up_to9_in_training};

@@ -1,4 +1,6 @@
 // Inner crate: rows of a flat batch, and the checks of them that loss, training and prediction share.
+#![tactic(auto)]
+
 ghost use Rattle.std.specs.Prelude.{◌≡◌, ◌*◌, ◌≤◌, ◌<◌, length};
 ghost use Rattle.batches.specs.Batch.{rows_in, row_at, row_fault, rows_fault, batch_fault};
 

@@ -2,7 +2,7 @@
 ghost use Rattle.std.specs.Prelude.{◌^◌, ◌<◌, ◌≤◌, length};
 
 // Whether there is a line, and how long it is without its LF.
-#[derive(Drop)]
+#[derive(Clone, Copy)]
 pub struct Found {
     pub some: bool,
     pub length: usize,

@@ -3,7 +3,7 @@
 use refusals::{Outcome, Refusal};
 use replay::same_bits;
 
-#[derive(Drop)]
+#[derive(Clone, Copy)]
 pub struct Cursor {
     pub at: usize,
     pub sound: bool,

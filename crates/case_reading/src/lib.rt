@@ -1,4 +1,6 @@
 // Inner crate: how a case is read. It is a slice of words; f32 numbers are words of 32 bits.
+#![tactic(auto)]
+
 mod cursor;
 mod read;
 

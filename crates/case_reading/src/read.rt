@@ -6,14 +6,14 @@ use replay::float_of;
 use spline::Grid;
 
 // How many numbers a list has, and the cursor behind that word.
-#[derive(Drop)]
+#[derive(Clone, Copy)]
 pub struct Length {
     pub count: usize,
     pub next: Cursor,
 }
 
 // K w0 .. w(K-1) g lo hi
-#[derive(Drop)]
+#[derive(Clone, Copy)]
 pub struct Setup {
     pub widths: [usize; 8],
     pub count: usize,
@@ -22,7 +22,7 @@ pub struct Setup {
 }
 
 // N x0 .. x(N-1)
-#[derive(Drop)]
+#[derive(Clone, Copy)]
 pub struct Floats {
     pub values: [f32; 128],
     pub count: usize,
@@ -30,7 +30,7 @@ pub struct Floats {
 }
 
 // N b0 .. b(N-1). There is room for as many as a line has words: a file has more bytes than its model has numbers.
-#[derive(Drop)]
+#[derive(Clone, Copy)]
 pub struct Bytes {
     pub values: [u8; 512],
     pub count: usize,

@@ -1,4 +1,6 @@
 // Public crate: the configuration checks (R3.4, R4.1 to R4.8), and the sizes that an accepted one has (R4.9).
+#![tactic(auto)]
+
 ghost use Rattle.std.specs.Prelude.{◌≡◌, ◌+◌, ◌*◌, ◌-◌, ◌^◌, ◌≤◌, max, min};
 ghost use Rattle.config.specs.Config.{intervals_sound, ends_sound, steps_sound, checked_of, check_of, count_of};
 ghost use Rattle.config.specs.Fold.{whole_of, is_too_large, layer_of, uncount, add_layer, empty_shape, step_of, per_edge_of};
@@ -8,20 +10,20 @@ use refusals::Refusal;
 use spline::Grid;
 
 // P, W and N (R2.4, R2.5): all parameters, the largest width, the sum of the widths.
-#[derive(Drop)]
+#[derive(Clone, Copy)]
 pub struct Sizes {
     pub parameters: usize,
     pub widest: usize,
     pub nodes: usize,
 }
 
-#[derive(Drop)]
+#[derive(Clone, Copy)]
 pub enum Checked {
     Sound(Sizes),
     Refused(Refusal),
 }
 
-#[derive(Drop)]
+#[derive(Clone, Copy)]
 pub enum Counted {
     Parameters(usize),
     Refused(Refusal),
@@ -29,7 +31,7 @@ pub enum Counted {
 
 // What the widths taken so far come to: all that the checks ask of them. Widths are taken one at a time, so that those of
 // a slice and those in the bytes of an image meet the same rules.
-#[derive(Drop)]
+#[derive(Clone, Copy)]
 pub struct Shape {
     // The width taken last; 0 before the first, which so makes a layer with no edge.
     pub last: usize,
@@ -52,7 +54,7 @@ const MOST_INTERVALS: usize = 9_223_372_036_854_775_800;
 const STUCK_INTERVALS: usize = 67_108_862;
 
 // A sum or product of sizes: the number, where it is below 2^64.
-#[derive(Drop)]
+#[derive(Clone, Copy)]
 enum Whole {
     Below(usize),
     TooLarge,

@@ -1,4 +1,6 @@
 // Inner crate: the part of two lent work slices that is handed back.
+#![tactic(auto)]
+
 ghost use Rattle.std.specs.Prelude.{◌≡◌, cond, ◌≤◌, length, take};
 ghost use Rattle.std.specs.Borrow.{fsep, sem};
 ghost use denote.Slice.{finally};

@@ -1,5 +1,7 @@
 // Public crate: the C linkage, and nothing else. A slice is a pointer and a length in elements; an answer goes out as
 // its number of refusal, 0 for none (R3.1, R14.2), and what that carries in a lent number.
+#![tactic(auto)]
+
 ghost use Rattle.std.specs.Prelude.{◌≡◌};
 ghost use Rattle.layers.specs.Net.{net_of};
 ghost use Rattle.config.specs.Config.{check_of, checked_refusal};

@@ -2,6 +2,8 @@
 // gradient is not -0.0, a zero added to it leaves it, so only the four coefficients are added to whose values can be
 // other than zero. Callers have checked that the layer's parameters are finite (11); where the knots' span is not
 // finite, or a gradient may be -0.0, the plain function is taken.
+#![tactic(auto)]
+
 mod zeros;
 
 ghost use Rattle.std.specs.Prelude.{◌≡◌, true, ℕ, ◌+◌, ◌*◌, ◌≤◌, ◌<◌, length};

@@ -1,4 +1,6 @@
 // Inner crate: the first parameters of a model, drawn from a seed. The generator goes by value from edge to edge.
+#![tactic(auto)]
+
 ghost use Rattle.std.specs.Prelude.{◌≡◌, ◌+◌, ◌*◌, ◌≤◌, length};
 ghost use Rattle.first_parameters.specs.Initial.{edge_initial, layer_initial, model_initial};
 ghost use Rattle.first_parameters.specs.Filled.{Filled, Whole};

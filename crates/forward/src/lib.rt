@@ -1,5 +1,7 @@
 // Public crate: one row, whose outputs are handed back as a part of the slice that holds them. It answers every argument, or
 // refuses by number.
+#![tactic(auto)]
+
 ghost use Rattle.std.specs.Prelude.{◌≡◌, ◌++◌, ◌-◌, ◌≤◌, length, take, drop};
 ghost use Rattle.std.specs.Borrow.{fsep, sem};
 ghost use denote.Slice.{finally};

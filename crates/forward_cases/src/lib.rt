@@ -1,5 +1,7 @@
 // Inner crate: settled cases of a single forward pass, each a slice of words: the arguments, the part that the call must hand
 // back, the lent number, and what must be left in both work slices, which are filled with 9.0 before.
+#![tactic(auto)]
+
 use case_reading::{Cursor, floats_here, length_here, setup_here};
 use config::Counted;
 use spline::Grid;

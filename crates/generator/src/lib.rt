@@ -1,24 +1,26 @@
 // Inner crate: SplitMix64, handed back by value, and the root of a whole number. Every public function answers all arguments.
+#![tactic(auto)]
+
 ghost use Rattle.std.specs.Prelude.{◌≡◌, ◌*◌, ◌%◌, ◌^◌, ◌<◌, false};
 ghost use Rattle.std.specs.Float.{binary32};
 ghost use Rattle.std.specs.Float.Ieee.{round};
 ghost use Rattle.generator.specs.Generator.{seeded_of, draw_of, uniform_of};
 ghost use Rattle.generator.specs.Root.{whole_root, root_of};
 
-#[derive(Drop)]
+#[derive(Clone, Copy)]
 pub struct SplitMix64 {
     pub state: u64,
 }
 
 // 64 bits, and the generator after them.
-#[derive(Drop)]
+#[derive(Clone, Copy)]
 pub struct Draw {
     pub value: u64,
     pub next: SplitMix64,
 }
 
 // A number from -1 to 1, and the generator after it.
-#[derive(Drop)]
+#[derive(Clone, Copy)]
 pub struct Uniform {
     pub value: f32,
     pub next: SplitMix64,

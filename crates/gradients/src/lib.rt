@@ -1,5 +1,7 @@
 // Inner crate: a row's gradients (R10.4, R10.5; specs/), and one layer of them: what a row adds to the gradients of the
 // layer's parameters, and what it hands back to the layer's inputs. The caller lends E's table.
+#![tactic(auto)]
+
 ghost use Rattle.std.specs.Prelude.{◌≡◌, ◌+◌, ◌*◌, ◌≤◌, ◌<◌, length};
 ghost use Rattle.floats.specs.Sums.{tabulate, flat_to};
 ghost use Rattle.exponential.specs.Steps.{Powers};

@@ -1,6 +1,8 @@
 // Inner crate: settled cases of the calls on model images, each a slice of words. A case gives the arguments of one
 // call, what the call must answer, and what it must leave in every slice that it was lent. An image is its bytes; f32
 // numbers are words of 32 bits.
+#![tactic(auto)]
+
 mod images;
 mod writer;
 

@@ -1,5 +1,7 @@
 // Inner crate: how an image of version 1 is laid out: the trailer at its end, and the lengths and distances that the
 // trailer has to name. Callers have checked that the trailer lies within the bytes.
+#![tactic(auto)]
+
 ghost use Rattle.std.specs.Prelude.{◌≡◌, ◌+◌, ◌^◌, ◌≤◌, ◌<◌, length};
 ghost use Rattle.image_layout.specs.Trailer.{widths_distance, image_length, trailer_at, trailer_words};
 ghost use Rattle.image_layout.specs.Steps.{TrailerRead, TrailerWritable};
@@ -7,7 +9,7 @@ ghost use Rattle.image_layout.specs.Steps.{TrailerRead, TrailerWritable};
 use spline::Grid;
 
 // The eight words at the end of an image. A distance is counted from the end.
-#[derive(Drop)]
+#[derive(Clone, Copy)]
 pub struct Trailer {
     // The distance to the first parameter, and to the first width.
     pub parameters: usize,

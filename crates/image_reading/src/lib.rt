@@ -1,5 +1,7 @@
 // Public crate: what a model image of version 1 describes, and its parameter bytes. Each call takes all bytes and
 // answers, or refuses by number (R3.1); one statement says the answer and the final contents of what was lent.
+#![tactic(auto)]
+
 ghost use Rattle.std.specs.Prelude.{◌≡◌, ◌+◌, ◌*◌, ◌^◌, ◌≤◌, ◌<◌, length};
 ghost use Rattle.config.specs.Config.{check_of};
 ghost use Rattle.words.specs.Words.{words_from};
@@ -12,14 +14,14 @@ use refusals::Refusal;
 use spline::Grid;
 
 // The grid, K and P of an accepted image.
-#[derive(Drop)]
+#[derive(Clone, Copy)]
 pub struct Description {
     pub grid: Grid,
     pub widths: usize,
     pub parameters: usize,
 }
 
-#[derive(Drop)]
+#[derive(Clone, Copy)]
 pub enum Described {
     Sound(Description),
     Refused(Refusal),

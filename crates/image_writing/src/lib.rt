@@ -1,5 +1,7 @@
 // Public crate: the model image of version 1, written from a configuration and a model. The call takes all arguments
 // and answers, or refuses by number (R3.1); one statement says the answer and the bytes that it leaves.
+#![tactic(auto)]
+
 ghost use Rattle.std.specs.Prelude.{◌≡◌};
 ghost use Rattle.image_writing.specs.Writing.{image_of, ImageWritten};
 ghost use Rattle.image_writing.specs.Steps.{refused_by, Writable};

@@ -1,4 +1,6 @@
 // Public crate: the start of a model, its parameters drawn from a seed. It answers every argument, or refuses by number.
+#![tactic(auto)]
+
 ghost use Rattle.initialisation.specs.Initialise.{Initialised};
 
 use admission::check_model;

@@ -1,5 +1,7 @@
 // Inner crate: the coefficients of one layer, moved between a flat model and the words of a file. The weights between them stay
 // where they are.
+#![tactic(auto)]
+
 ghost use Rattle.std.specs.Prelude.{◌≡◌, true, ◌++◌, ◌*◌, ◌+◌, ◌-◌, ◌<◌, length, drop};
 ghost use Rattle.floats.specs.Sums.{all_finite};
 ghost use Rattle.layer_cursor.specs.Cursor.{Walkable, Stands};

@@ -1,4 +1,6 @@
 // Inner crate: the one walk over the layers of a flat model. No other loop works out where a layer's part of it begins.
+#![tactic(auto)]
+
 ghost use Rattle.std.specs.Prelude.{◌≡◌, ◌+◌, ◌-◌, ◌≤◌, ◌<◌, length};
 ghost use Rattle.layers.specs.Widths.{width_at};
 ghost use Rattle.layer_cursor.specs.Cursor.{Walkable, Stands};
@@ -7,7 +9,7 @@ use local_basis::Mesh;
 use spline::Grid;
 
 // A layer: its number, the mesh of its grid, where its part of the model and its nodes begin, and its two widths.
-#[derive(Drop)]
+#[derive(Clone, Copy)]
 pub struct Layer {
     pub index: usize,
     pub mesh: Mesh,

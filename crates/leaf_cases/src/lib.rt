@@ -1,5 +1,7 @@
 // Inner crate: settled cases of the leaves, each a slice of words. f32 numbers are words of 32 bits. A wrong count of
 // words agrees with nothing.
+#![tactic(auto)]
+
 ghost use Rattle.std.specs.Prelude.{◌≤◌, length};
 
 use generator::SplitMix64;

@@ -1,5 +1,7 @@
 // Inner crate: the leaves through C linkage, for comparison runs over single functions. Not part of what is installed.
 // Since C can't be asked to have checked anything, each answers all arguments.
+#![tactic(auto)]
+
 ghost use Rattle.std.specs.Prelude.{◌≡◌};
 ghost use Rattle.exponential.specs.Exponential.{exp_of};
 ghost use Rattle.generator.specs.Root.{root_of};

@@ -1,4 +1,6 @@
 // Program: the listing of the image on standard input (R15.1). Its `stdin` and `stdout` are the example of R16.4.
+#![tactic(auto)]
+
 use libc::{STDIN_FILENO, STDOUT_FILENO};
 
 fn main() {

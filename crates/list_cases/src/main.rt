@@ -1,5 +1,7 @@
 // Program: listings of images that differ from the example of R16.4 in their length or in a few bytes. Its file
 // `stdout` holds what R15.2 and R15.4 ask for each.
+#![tactic(auto)]
+
 ghost use Rattle.std.specs.Prelude.{◌≡◌, ◌≤◌, ◌<◌, length};
 
 use libc::STDOUT_FILENO;

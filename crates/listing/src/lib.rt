@@ -1,4 +1,6 @@
 // Inner crate: the listing of an image, line by line, in a lent slice that has room for the longest one.
+#![tactic(auto)]
+
 ghost use Rattle.std.specs.Prelude.{◌≡◌, ◌+◌, ◌*◌, ◌≤◌, length};
 ghost use Rattle.text.specs.Appended.{Appended, AppendedWithin};
 ghost use Rattle.listing.specs.Listing.{grid_line, layer_text, layers_text, sound_text, listing_of};

@@ -1,6 +1,8 @@
 // Inner crate: the four cubic basis values, or slopes, that can be other than zero at an input, worked out once for all
 // edges that read it. They stand for all where the knots' span is finite, which a mesh has tested; where it is not, a
 // value far from the input can be a NaN, and callers take the plain functions.
+#![tactic(auto)]
+
 mod fours;
 mod place;
 mod search;
@@ -13,7 +15,7 @@ pub use fours::{both_at, slopes_at, values_at, values_by};
 use spline::Grid;
 
 // A grid with what every input on it asks for, worked out once: its width, and whether the span of its knots is finite.
-#[derive(Drop)]
+#[derive(Clone, Copy)]
 pub struct Mesh {
     pub grid: Grid,
     pub width: f32,
@@ -21,7 +23,7 @@ pub struct Mesh {
 }
 
 // Four neighbouring numbers of a basis, the first of which has the index `start`.
-#[derive(Drop)]
+#[derive(Clone, Copy)]
 pub struct Four {
     pub start: usize,
     pub first: f32,
@@ -31,7 +33,7 @@ pub struct Four {
 }
 
 // Four values, and the slopes of the same four indices.
-#[derive(Drop)]
+#[derive(Clone, Copy)]
 pub struct Eight {
     pub values: Four,
     pub slopes: Four,

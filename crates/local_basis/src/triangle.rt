@@ -16,7 +16,7 @@ fn less(i: usize, n: usize) -> usize
 }
 
 // The six knots about an input, and the three values of degree 2 there.
-#[derive(Drop)]
+#[derive(Clone, Copy)]
 pub struct Squares {
     pub k1: f32,
     pub k2: f32,

@@ -1,5 +1,7 @@
 // Public crate: the mean squared error of a batch, row by row. It answers every argument, or refuses by number; one
 // record says the answer and the final contents of everything that was lent.
+#![tactic(auto)]
+
 ghost use Rattle.std.specs.Prelude.{◌≡◌, ◌≤◌, length, take};
 ghost use Rattle.layers.specs.Net.{net_of, Net};
 ghost use Rattle.passes.specs.Turns.{Fits, holder};
@@ -13,13 +15,13 @@ use refusals::Refusal;
 use spline::Grid;
 
 // A running sum of squared errors, or the number that stopped it: 20, 21 or 22.
-#[derive(Drop)]
+#[derive(Clone, Copy)]
 pub enum Sum {
     Of(f32),
     Stopped(u32),
 }
 
-#[derive(Drop)]
+#[derive(Clone, Copy)]
 pub enum Loss {
     Mean(f32),
     Refused(Refusal),

@@ -1,6 +1,8 @@
 // Program: runs every case of five lists, the settled examples of training, of images, of the visit map, of training in two
 // calls and of NPY files, against the proved crates, and prints for each list how many cases of each tag agree. Its file
 // `stdout` says that all do.
+#![tactic(auto)]
+
 mod cases;
 
 use replay::Line;
@@ -9,7 +11,7 @@ use replay::Line;
 const MOST_BYTES: usize = 1_048_576;
 
 // What became of a line. A case is counted under its tag.
-#[derive(Drop)]
+#[derive(Clone, Copy)]
 enum Outcome {
     Agrees(u8),
     Differs(u8),

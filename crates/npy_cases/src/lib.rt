@@ -1,6 +1,8 @@
 // Inner crate: settled cases of the calls on a layer's NPY file, each a slice of words: the arguments, what the call must answer,
 // and what it must leave in what it may write. A file is its bytes; f32 numbers are words of 32 bits. A length has the name of its
 // letter in the case.
+#![tactic(auto)]
+
 mod reader;
 mod writer;
 

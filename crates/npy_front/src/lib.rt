@@ -1,5 +1,7 @@
 // Inner crate: the header of an NPY file of f32 numbers in three dimensions, as it is written: 128 bytes, however many digits its
 // sizes have.
+#![tactic(auto)]
+
 ghost use Rattle.std.specs.Prelude.{◌≡◌, ◌++◌, ◌+◌, ◌-◌, ◌≤◌, ◌<◌, length, drop, replicate};
 ghost use Rattle.text.specs.Appended.{Appended, AppendedWithin};
 ghost use Rattle.npy_front.specs.Front.{dictionary_text, header_bytes};

@@ -9,7 +9,7 @@ use crate::sizes::sizes_at;
 use npy_tokens::{Class, Quoted};
 
 // Which entries were found so far, whether their values are those asked for, and the place behind the last.
-#[derive(Drop)]
+#[derive(Clone, Copy)]
 pub struct Found {
     pub next: usize,
     pub descr: bool,
@@ -19,7 +19,7 @@ pub struct Found {
 }
 
 // True or False, and the place behind it.
-#[derive(Drop)]
+#[derive(Clone, Copy)]
 pub struct Truth {
     pub holds: bool,
     pub next: usize,

@@ -5,14 +5,14 @@ ghost use Rattle.npy_header.specs.Steps.{Small, MatchedOne, Walked, SizesRead};
 use npy_tokens::Class;
 
 // How many of the sizes asked for were found, and whether all numbers so far are these.
-#[derive(Drop)]
+#[derive(Clone, Copy)]
 pub struct Matched {
     pub count: usize,
     pub alike: bool,
 }
 
 // A place in a shape, and whether a number, or the parenthesis that closes it, is still to come.
-#[derive(Drop)]
+#[derive(Clone, Copy)]
 pub struct Walk {
     pub next: usize,
     pub matched: Matched,
@@ -20,7 +20,7 @@ pub struct Walk {
 }
 
 // Whether a shape is the one asked for, and the place behind it.
-#[derive(Drop)]
+#[derive(Clone, Copy)]
 pub struct Sizes {
     pub asked: bool,
     pub next: usize,

@@ -1,5 +1,7 @@
 // Public crate: one layer's coefficients from an NPY file, as NumPy writes it. The call takes all arguments and answers, or refuses by
 // number (R3.1); one record says the answer and the model that it leaves.
+#![tactic(auto)]
+
 ghost use Rattle.std.specs.Prelude.{◌≡◌, ◌+◌, ◌*◌, ◌≤◌, eqb};
 ghost use Rattle.refusals.specs.Refusals.{◌otherwise◌, ◌then◌};
 ghost use Rattle.npy_header.specs.Steps.{Small};

@@ -1,13 +1,15 @@
 // Inner crate: the tokens of an NPY file's header in a lent text, each read from a place on. A reader answers the place behind
 // what it found, and the text's end where it found something else: nothing is found there, so that a text that fails once
 // fails to its end, and callers need not ask after every token.
+#![tactic(auto)]
+
 ghost use Rattle.std.specs.Prelude.{◌≡◌, ◌*◌, ◌+◌, ◌-◌, ◌≤◌, ◌<◌, length, drop};
 ghost use Rattle.npy_tokens.specs.Tokens.{belongs, after_byte, after_bytes, after_token, begins_with, is_quote};
 ghost use Rattle.npy_tokens.specs.Tokens.{plain, value_of, same};
 ghost use Rattle.npy_tokens.specs.Places.{Place, part, Ended, StringRead, Digits, counted, NumberRead};
 
 // A class of bytes.
-#[derive(Drop)]
+#[derive(Clone, Copy)]
 pub enum Class {
     Space,
     Digit,
@@ -16,7 +18,7 @@ pub enum Class {
 }
 
 // A string: where it begins and ends between its quotes, and the place behind them.
-#[derive(Drop)]
+#[derive(Clone, Copy)]
 pub struct Quoted {
     pub from: usize,
     pub end: usize,
@@ -24,7 +26,7 @@ pub struct Quoted {
 }
 
 // A whole number, counted up to `MOST`, and the place behind its last digit.
-#[derive(Drop)]
+#[derive(Clone, Copy)]
 pub struct Number {
     pub value: usize,
     pub next: usize,

@@ -1,5 +1,7 @@
 // Public crate: one layer's coefficients written as an NPY file, for NumPy. The call takes all arguments and answers, or refuses by
 // number (R3.1); one record says the answer and the bytes that it leaves.
+#![tactic(auto)]
+
 ghost use Rattle.std.specs.Prelude.{◌≡◌};
 ghost use Rattle.layer_coefficients.specs.Steps.{Ready};
 ghost use Rattle.npy_writing.specs.Writing.{file_of, NpyWritten};

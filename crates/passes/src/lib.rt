@@ -1,5 +1,7 @@
 // Inner crate: one row's way through all layers, in two lent slices. The row is first copied to the front of the second slice, so
 // that every layer reads the one slice and writes the other, the first layer the first one.
+#![tactic(auto)]
+
 ghost use Rattle.std.specs.Prelude.{◌≡◌, ◌+◌, ◌*◌, ◌≤◌, ◌<◌, length, take};
 ghost use Rattle.exponential.specs.Steps.{Powers};
 ghost use Rattle.local_basis.specs.Meshes.{Meshed};

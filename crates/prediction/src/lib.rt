@@ -1,5 +1,7 @@
 // Public crate: prediction of a batch, row by row. It answers every argument, or refuses by number; one record says the
 // answer and the final contents of everything that was lent.
+#![tactic(auto)]
+
 ghost use Rattle.std.specs.Prelude.{◌≡◌, ◌+◌, ◌*◌, ◌≤◌, ◌<◌, ◌++◌, length, take, drop};
 ghost use Rattle.layers.specs.Net.{net_of, Net};
 ghost use Rattle.layers.specs.Widths.{parameters_in};

@@ -1,12 +1,14 @@
 // Inner crate: lists of cases as text, read from a slice. A line that begins with `#` is a comment, a blank line is
 // skipped, and every other line is a one-letter tag and words of 1 to 16 lower-case hexadecimal digits, one space
 // between.
+#![tactic(auto)]
+
 ghost use Rattle.std.specs.Prelude.{◌≡◌, ◌≤◌, length};
 ghost use Rattle.replay.specs.Floats.{float_of, same_bits};
 ghost use Rattle.replay.specs.Lines.{Before, LineEnd, digit_of, letter_of, word_of, Tagged, Parsed};
 
 // What a line is. Its words are at the start of the slice that was lent.
-#[derive(Drop)]
+#[derive(Clone, Copy)]
 pub enum Line {
     Words { tag: u8, count: usize },
     Skipped,
@@ -14,7 +16,7 @@ pub enum Line {
 }
 
 // What stands between two spaces.
-#[derive(Drop)]
+#[derive(Clone, Copy)]
 pub enum Word {
     Number(u64),
     Other,

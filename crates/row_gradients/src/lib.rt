@@ -1,6 +1,8 @@
 // Inner crate: one row's gradients, in a work slice of 2N: the node values in its first half, their gradients in its
 // second, each layer's after those of the layer before. The slice is lent whole, so each step reads parts of it and
 // writes it place by place.
+#![tactic(auto)]
+
 ghost use Rattle.std.specs.Prelude.{◌≡◌, true, ◌-◌, length};
 ghost use Rattle.exponential.specs.Steps.{Powers};
 ghost use Rattle.local_basis.specs.Fours.{Finite};

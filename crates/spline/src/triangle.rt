@@ -47,7 +47,7 @@ pub fn blend(a: f32, b: f32, c: f32, e: f32, x: f32, this: f32, next: f32) -> f3
 }
 
 // A cubic basis value and its slope.
-#[derive(Drop)]
+#[derive(Clone, Copy)]
 pub struct Cubic {
     pub value: f32,
     pub slope: f32,

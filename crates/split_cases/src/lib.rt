@@ -1,5 +1,7 @@
 // Inner crate: settled cases of training in two calls, each a slice of words: the arguments, what the call must answer, and what
 // it must leave in what it may write. f32 numbers are words of 32 bits. A length has the name of its letter in the case.
+#![tactic(auto)]
+
 mod accumulating;
 mod applying;
 

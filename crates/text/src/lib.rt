@@ -1,4 +1,6 @@
 // Inner crate: text put at a place of lent bytes, where the caller has left room. Each function answers the next place.
+#![tactic(auto)]
+
 ghost use Rattle.std.specs.Prelude.{◌≡◌, ◌+◌, ◌≤◌, ◌<◌, length};
 ghost use Rattle.text.specs.Text.{glyph, decimal_of, bits_text, number_text, pattern_text, labelled_line};
 ghost use Rattle.text.specs.Appended.{Appended, AppendedWithin};

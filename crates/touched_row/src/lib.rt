@@ -1,5 +1,7 @@
 // Inner crate: which parameters a row touches (specs/), and its marks in a map of one byte per parameter. Each layer's
 // are made from the numbers that it reads, before it runs.
+#![tactic(auto)]
+
 ghost use Rattle.std.specs.Prelude.{◌≡◌, take};
 ghost use Rattle.exponential.specs.Steps.{Powers};
 ghost use Rattle.local_basis.specs.Meshes.{Meshed};

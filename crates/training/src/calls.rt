@@ -15,7 +15,7 @@ use refusals::{Outcome, Refusal};
 use spline::Grid;
 
 // A refusal, what it carries, and how many steps were done before it.
-#[derive(Drop)]
+#[derive(Clone, Copy)]
 pub struct Stop {
     pub number: u32,
     pub carried: usize,
@@ -23,7 +23,7 @@ pub struct Stop {
 }
 
 // All steps that were asked for, or the refusal that stopped them.
-#[derive(Drop)]
+#[derive(Clone, Copy)]
 pub enum Training {
     All(usize),
     Stopped(Stop),

@@ -1,5 +1,7 @@
 // Inner crate: settled cases of training, each a slice of words. A case gives the arguments of one call, what the call must
 // answer, and what it must leave in the model and in both slices that it was lent. f32 numbers are words of 32 bits.
+#![tactic(auto)]
+
 mod answers;
 mod calls;
 

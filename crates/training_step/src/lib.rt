@@ -1,4 +1,6 @@
 // Inner crate: one step of training on a batch that is sound: gradients gathered from +0.0, then the model moved or left.
+#![tactic(auto)]
+
 ghost use Rattle.exponential.specs.Steps.{Powers};
 ghost use Rattle.layers.specs.Net.{net_of};
 ghost use Rattle.training_step.specs.Stages.{StepReady, GatherDone, StepDone};

@@ -1,5 +1,7 @@
 // Inner crate: the update of a model, parameter less rate times gradient, and the test of the rate. A first pass tests, a
 // second stores, so that a refusal leaves the model.
+#![tactic(auto)]
+
 ghost use Rattle.std.specs.Prelude.{◌≡◌, ◌≤◌, length};
 ghost use Rattle.floats.specs.Sums.{all_finite};
 ghost use Rattle.update.specs.Update.{rate_sound, moved_of};

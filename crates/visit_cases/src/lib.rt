@@ -1,6 +1,8 @@
 // Inner crate: settled cases of the visit map, each a slice of words: the arguments, what the call must answer, and what it must
 // leave in both work slices, which are filled with 9.0 before, and in the map, which is filled with 7. f32 numbers are words of
 // 32 bits. A length has the name of its letter in the case.
+#![tactic(auto)]
+
 use case_reading::{Cursor, floats_here, length_here, setup_here};
 use spline::Grid;
 

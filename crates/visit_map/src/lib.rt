@@ -1,5 +1,7 @@
 // Public crate: the visit map, which parameters of a model a batch touches. It takes all arguments and answers, or
 // refuses by number (R3.1); one record says the answer and the final contents of everything that was lent.
+#![tactic(auto)]
+
 ghost use Rattle.std.specs.Prelude.{◌≡◌, length};
 ghost use Rattle.layers.specs.Net.{net_of, Net};
 ghost use Rattle.admission.specs.Admission.{up_to9};

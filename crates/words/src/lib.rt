@@ -1,5 +1,7 @@
 // Inner crate: little-endian words of 4 bytes in lent slices of bytes, and the numbers that they stand for. Callers
 // have checked that the words lie within the bytes.
+#![tactic(auto)]
+
 ghost use Rattle.std.specs.Prelude.{◌≡◌, true, ◌++◌, ℕ, ◌+◌, ◌*◌, ◌^◌, ◌≤◌, ◌<◌, length, get_or, drop};
 ghost use Rattle.std.specs.Float.{binary32};
 ghost use Rattle.std.specs.Float.Ieee.{of_bits};

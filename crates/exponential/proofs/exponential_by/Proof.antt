@@ -7,72 +7,72 @@ use Rattle.exponential.proofs.exponential_by.Statement.{statement}
 use Rattle.exponential.proofs.exponential_by.Tie as tie
 
 -- where x lies inside the limits
-abbrev start : tie.Else3 → tie.Start
+abbrev start : tie.Else-x-3 → tie.Start
 start c = c.before.before.before
 
 -- what the tests say there, where x is negative and where it is not
-negative : (c : tie.Then4) → BelowZero (start c.before).args.x
+negative : (c : tie.Then-x-4) → BelowZero (start c.before).args.x
 unfolding of_bits neg
 negative c =
-    below_zero (start c.before).args.x c.before.before.if2.false c.before.if3.false c.if4.true
+    below_zero (start c.before).args.x c.before.before.if-x-2.false c.before.if-x-3.false c.if-x-4.true
 
-other : (c : tie.Else4) → FromZero (start c.before).args.x
+other : (c : tie.Else-x-4) → FromZero (start c.before).args.x
 unfolding of_bits neg
 other c =
-    let number = c.before.before.before.if1.false in
-    from_zero (start c.before).args.x number c.before.before.if2.false c.before.if3.false c.if4.false
+    let number = c.before.before.before.if-x.false in
+    from_zero (start c.before).args.x number c.before.before.if-x-2.false c.before.if-x-3.false c.if-x-4.false
 
 -- ---- outside the limits
-returns : tie.Need-returns
-returns c = at_nan c.before.args.x c.if1.true
+returns : tie.Need-returns-then-x
+returns c = at_nan c.before.args.x c.if-x.true
 
-float_from_bits_result : tie.Need-float-from-bits-result
+float_from_bits_result : tie.Need-float_from_bits-result
 unfolding nan_bits
 float_from_bits_result c = tt
 
-returns_2 : tie.Need-returns-2
+returns_2 : tie.Need-returns-then-x-2
 unfolding of_bits neg
-returns_2 c = at_high c.before.before.args.x c.if2.true
+returns_2 c = at_high c.before.before.args.x c.if-x-2.true
 
-returns_3 : tie.Need-returns-3
+returns_3 : tie.Need-returns-then-x-3
 unfolding of_bits neg
-returns_3 c = at_low c.before.before.before.args.x c.before.if2.false c.if3.true
+returns_3 c = at_low c.before.before.before.args.x c.before.if-x-2.false c.if-x-3.true
 
 -- ---- a negative x
-scaled_size_requires : tie.Need-scaled-size-requires
+scaled_size_requires : tie.Need-scaled_size-requires
 scaled_size_requires c κs = (negative c).small
 
-mul_q : tie.Need-overflow-mul-q
-mul_q c = omega (arith, (negative c.before).size, c.scaled-size.ensures)
+mul_q : tie.Need-overflow_mul-q
+mul_q c = omega (arith, (negative c.before).size, c.scaled_size.ensures)
 
-sub_q : tie.Need-overflow-sub-q
-sub_q c = omega (arith, (negative c.before).size, c.scaled-size.ensures)
+sub_q : tie.Need-overflow_sub-q
+sub_q c = omega (arith, (negative c.before).size, c.scaled_size.ensures)
 
-from_raised_requires : tie.Need-from-raised-requires
+from_raised_requires : tie.Need-from_raised-requires
 from_raised_requires c κs = search rules
 
 -- ---- any other x
-scaled_size_requires_2 : tie.Need-scaled-size-requires-2
+scaled_size_requires_2 : tie.Need-scaled_size-requires-else-x-4
 scaled_size_requires_2 c κs = (other c).small
 
-mul_from_raised : tie.Need-overflow-mul-from-raised
-mul_from_raised c = omega (arith, (other c.before).size, c.scaled-size2.ensures)
+mul_from_raised : tie.Need-overflow_mul-scaled_size
+mul_from_raised c = omega (arith, (other c.before).size, c.scaled_size-else-x-4.ensures)
 
-from_raised_requires_2 : tie.Need-from-raised-requires-2
+from_raised_requires_2 : tie.Need-from_raised-requires-else-x-4
 from_raised_requires_2 c κs =
-    ((start c.before.before).requires, omega (arith, (other c.before).size, c.scaled-size2.ensures))
+    ((start c.before.before).requires, omega (arith, (other c.before).size, c.scaled_size-else-x-4.ensures))
 
 -- ---- the answers
-returns_4 : tie.Need-returns-4
+returns_4 : tie.Need-returns-then-x-4
 returns_4 c =
-    let size = c.before.scaled-size.ensures in
-    c.from-raised.ensures ∙ ap (λ (n : ℕ). raised_of (151 * 2 ^ 56 - n * 1549082005) 0) size
+    let size = c.before.scaled_size.ensures in
+    c.from_raised.ensures ∙ ap (λ (n : ℕ). raised_of (151 * 2 ^ 56 - n * 1549082005) 0) size
     ∙ sym (negative c.before.before).value
 
-returns_5 : tie.Need-returns-5
+returns_5 : tie.Need-returns-else-x-4
 returns_5 c =
-    let size = c.before.scaled-size2.ensures in
-    c.from-raised2.ensures ∙ ap (λ (n : ℕ). raised_of (n * 1549082005) 151) size
+    let size = c.before.scaled_size-else-x-4.ensures in
+    c.from_raised-else-x-4.ensures ∙ ap (λ (n : ℕ). raised_of (n * 1549082005) 151) size
     ∙ sym (other c.before.before).value
 
 pub exponential_by_spec : {M : Type 1} → statement M

@@ -5,11 +5,11 @@ use Rattle.generator.proofs.Once.{once}
 use Rattle.generator.proofs.fraction.Statement.{statement}
 use Rattle.generator.proofs.fraction.Tie as tie
 
-int_to_float_result : tie.Need-int-to-float-result
+int_to_float_result : tie.Need-int_to_float-result
 unfolding in_float
 int_to_float_result c = omega (arith, le→leb)
 
-int_to_float_result_2 : tie.Need-int-to-float-result-2
+int_to_float_result_2 : tie.Need-int_to_float-result-2
 unfolding in_float
 int_to_float_result_2 c = omega (arith, le→leb)
 

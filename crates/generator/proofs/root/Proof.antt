@@ -10,41 +10,41 @@ use Rattle.generator.proofs.root.Tie as tie
 small : (n s : ℕ) → n * 2 ^ 48 < 2 ^ 64 → s ≡ whole_root (n * 2 ^ 48) → s < 2 ^ 32
 small n s l e = rw e (whole_root_below (n * 2 ^ 48) l)
 
-returns : tie.Need-returns
+returns : tie.Need-returns-then-n-lt1
 unfolding of_bits
 returns c = let n = c.before.args.n in sym (root_elsewhere n (λ (w : (1 ≤ n) × (n ≤ 41666)). omega arith))
 
-returns_2 : tie.Need-returns-2
+returns_2 : tie.Need-returns-then-n-gt41666
 unfolding of_bits
 returns_2 c = let n = c.before.before.args.n in sym (root_elsewhere n (λ (w : (1 ≤ n) × (n ≤ 41666)). omega arith))
 
-mul_whole_root : tie.Need-overflow-mul-whole-root
+mul_whole_root : tie.Need-overflow_mul-n
 mul_whole_root c = search rules
 
-whole_root_requires : tie.Need-whole-root-requires
+whole_root_requires : tie.Need-whole_root-whole-requires
 whole_root_requires c κs = search rules
 
-mul_fraction : tie.Need-overflow-mul-fraction
+mul_fraction : tie.Need-overflow_mul-whole
 mul_fraction c =
-    let s = small c.before.before.before.args.n c.whole-root.result (omega arith) c.whole-root.ensures in
+    let s = small c.before.before.before.args.n c.whole_root-whole.result (omega arith) c.whole_root-whole.ensures in
     search rules
 
-add_fraction : tie.Need-overflow-add-fraction
+add_fraction : tie.Need-overflow_add-whole
 add_fraction c =
-    let s = small c.before.before.before.args.n c.whole-root.result (omega arith) c.whole-root.ensures in
+    let s = small c.before.before.before.args.n c.whole_root-whole.result (omega arith) c.whole_root-whole.ensures in
     search rules
 
 fraction_requires : tie.Need-fraction-requires
 fraction_requires c κs =
-    let s = small c.before.before.before.args.n c.whole-root.result (omega arith) c.whole-root.ensures in
+    let s = small c.before.before.before.args.n c.whole_root-whole.result (omega arith) c.whole_root-whole.ensures in
     search rules
 
-returns_3 : tie.Need-returns-3
+returns_3 : tie.Need-returns
 returns_3 c =
     let n = c.before.before.before.before.args.n in
     c.fraction.ensures
-    ∙ ap (λ (s : ℕ). round binary32 false (2 * s + 1) (2 ^ 25)) c.before.whole-root.ensures
-    ∙ sym (root_within n c.before.before.before.if1.false c.before.before.if2.false)
+    ∙ ap (λ (s : ℕ). round binary32 false (2 * s + 1) (2 ^ 25)) c.before.whole_root-whole.ensures
+    ∙ sym (root_within n c.before.before.before.if-n-lt1.false c.before.before.if-n-gt41666.false)
 
 pub root_spec : {M : Type 1} → statement M
 root_spec =

@@ -4,18 +4,18 @@ use Rattle.generator.specs.Generator.{draw_of}
 use Rattle.generator.proofs.SplitMix64.next_u64.Statement.{statement}
 use Rattle.generator.proofs.SplitMix64.next_u64.Tie as tie
 
-wrapping_add_u64_requires : tie.Need-wrapping-add-u64-requires
+wrapping_add_u64_requires : tie.Need-wrapping_add_u64-state-requires
 wrapping_add_u64_requires c κs = search rules
 
-wrapping_mul_requires : tie.Need-wrapping-mul-requires
+wrapping_mul_requires : tie.Need-wrapping_mul-once-requires
 wrapping_mul_requires c κs = search rules
 
-wrapping_mul_requires_2 : tie.Need-wrapping-mul-requires-2
+wrapping_mul_requires_2 : tie.Need-wrapping_mul-twice-requires
 wrapping_mul_requires_2 c κs = search rules
 
 returns : tie.Need-returns
 unfolding draw_of
-returns c = rw (c.wrapping-mul2.ensures, c.before.wrapping-mul.ensures, c.before.before.wrapping-add-u64.ensures)
+returns c = rw (c.wrapping_mul-twice.ensures, c.before.wrapping_mul-once.ensures, c.before.before.wrapping_add_u64-state.ensures)
 
 pub next_u64_spec : {M : Type 1} → statement M
 next_u64_spec = tie.close (tie.spec wrapping_add_u64_requires wrapping_mul_requires wrapping_mul_requires_2 returns)

@@ -7,10 +7,10 @@ use Rattle.text.proofs.append_bits.Statement.{statement}
 use Rattle.text.proofs.append_bits.Tie as tie
 
 -- the fourth and the eighth digit, with those before them
-abbrev fourth : tie.After-digit8 → tie.After-digit4
+abbrev fourth : tie.After-digit-8 → tie.After-digit-4
 fourth c = c.before.before.before.before
 
-abbrev digits : tie.After-append → tie.After-digit8
+abbrev digits : tie.After-append → tie.After-digit-8
 digits c = c.before.before.before
 
 digit_requires : tie.Need-digit-requires
@@ -37,13 +37,13 @@ digit_requires_7 c κs = search rules
 digit_requires_8 : tie.Need-digit-requires-8
 digit_requires_8 c κs = search rules
 
-slice_aggregate_append : tie.Need-slice-aggregate-append
+slice_aggregate_append : tie.Need-slice_bounds-append-end
 slice_aggregate_append c = search rules
 
 append_requires : tie.Need-append-requires
 append_requires c κs = search rules
 
-same_length : tie.Need-same-length
+same_length : tie.Need-shape_of-out
 same_length c = search rules
 
 returns : tie.Need-returns
@@ -52,9 +52,9 @@ returns c =
     let last = digits appended in
     let four = fourth last in
     let text =
-    eight _ _ _ _ _ _ _ _ _ four.before.before.before.digit.ensures four.before.before.digit2.ensures
-    four.before.digit3.ensures four.digit4.ensures last.before.before.before.digit5.ensures
-    last.before.before.digit6.ensures last.before.digit7.ensures last.digit8.ensures in
+    eight _ _ _ _ _ _ _ _ _ four.digit.ensures four.digit-2.ensures
+    four.digit-3.ensures four.digit-4.ensures last.digit-5.ensures
+    last.digit-6.ensures last.digit-7.ensures last.digit-8.ensures in
     record { whole = retold appended.append.ensures text; short = omega (arith, appended.append.ensures.place) }
 
 pub append_bits_spec : {M : Type 1} → statement M

@@ -4,25 +4,25 @@ use Rattle.text.proofs.Appends.{exact, both_within}
 use Rattle.text.proofs.append_number.Statement.{statement}
 use Rattle.text.proofs.append_number.Tie as tie
 
-abbrev digits : tie.After-append → tie.After-append-decimal
+abbrev digits : tie.After-append → tie.After-append_decimal-next
 digits c = c.before.before.before.before.before
 
-append_decimal_requires : tie.Need-append-decimal-requires
+append_decimal_requires : tie.Need-append_decimal-next-requires
 append_decimal_requires c κs = search rules
 
-slice_aggregate_append : tie.Need-slice-aggregate-append
+slice_aggregate_append : tie.Need-slice_bounds-append-end
 slice_aggregate_append c = search rules
 
 append_requires : tie.Need-append-requires
 append_requires c κs = search rules
 
-same_length : tie.Need-same-length
+same_length : tie.Need-shape_of-out
 same_length c = search rules
 
 returns : tie.Need-returns
 returns c =
     let behind = c.before.before in
-    both_within (digits behind).append-decimal.ensures (exact behind.append.ensures)
+    both_within (digits behind).append_decimal-next.ensures (exact behind.append.ensures)
 
 pub append_number_spec : {M : Type 1} → statement M
 append_number_spec =

@@ -15,10 +15,10 @@ use Rattle.words.proofs.Tables.{floats_length, finite_at}
 use Rattle.words.proofs.all_finite.Statement.{statement}
 use Rattle.words.proofs.all_finite.Tie as tie
 
-abbrev invariant-loop : tie.invariant-loop
+abbrev invariant-loop : tie.invariant-loop-i
 invariant-loop bytes count i₀ i = (i ≤ count) × (all_to (λ (k : ℕ). finite (at (floats_in bytes count) k)) i ≡ true)
 
-abbrev decreases-loop : tie.decreases-loop
+abbrev decreases-loop : tie.decreases-loop-i
 decreases-loop bytes count i₀ i = count - i
 
 -- what the test of a word says of the numbers
@@ -27,52 +27,52 @@ seen : (bs : List ℕ) (i n w : ℕ) (r : Bool) → i < n → w ≡ word_at bs (
 seen bs i n w r h p q = q ∙ ap (λ (v : ℕ). finite (of_bits binary32 v)) p ∙ finite_at bs n i h
 
 -- ---- from place to place, and what the test of a word says there
-abbrev turn : tie.After-is-finite invariant-loop decreases-loop → tie.In-loop invariant-loop decreases-loop
+abbrev turn : tie.After-is_finite invariant-loop decreases-loop → tie.In-loop-i invariant-loop decreases-loop
 turn c = c.before.before
 
-abbrev head : tie.After-is-finite invariant-loop decreases-loop → tie.At-loop invariant-loop decreases-loop
+abbrev head : tie.After-is_finite invariant-loop decreases-loop → tie.At-loop-i invariant-loop decreases-loop
 head c = (turn c).before
 
-tested : (c : tie.After-is-finite invariant-loop decreases-loop)
-    → let a = (head c).before.before.args in
-    c.is_finite.result ≡ finite (at (floats_in a.bytes.now a.count) (head c).loop.i)
+tested : (c : tie.After-is_finite invariant-loop decreases-loop)
+    → let a = (head c).args in
+    c.is_finite.result ≡ finite (at (floats_in a.bytes.now a.count) (head c).loop-i.i)
 tested c =
-    seen _ (head c).loop.i _ _ _ (turn c).loop-test.true c.before.word.ensures c.is_finite.ensures
+    seen _ (head c).loop-i.i _ _ _ (turn c).loop-i-test.true c.word.ensures c.is_finite.ensures
 
 -- ---- the needs
-loop_holds : tie.Need-loop-init invariant-loop decreases-loop
+loop_holds : tie.Need-loop-i-init invariant-loop decreases-loop
 loop_holds c = (omega arith, all_none _)
 
-mul_at : tie.Need-overflow-mul-at invariant-loop decreases-loop
+mul_at : tie.Need-overflow_mul-at invariant-loop decreases-loop
 mul_at c = omega arith
 
 word_requires : tie.Need-word-requires invariant-loop decreases-loop
 word_requires c κs = omega arith
 
-is_finite_requires : tie.Need-is-finite-requires invariant-loop decreases-loop
+is_finite_requires : tie.Need-is_finite-requires invariant-loop decreases-loop
 is_finite_requires c κs = search rules
 
-returns : tie.Need-returns invariant-loop decreases-loop
+returns : tie.Need-returns-then-not-is_finite invariant-loop decreases-loop
 unfolding all_finite
 returns c =
     let test = c.before in
-    let unsound = sym (tested test) ∙ not-true _ c.if1.true in
-    rw floats_length (sym (all_stop _ (head test).loop.i _ (turn test).loop-test.true unsound))
+    let unsound = sym (tested test) ∙ not-true _ c.if-not-is_finite.true-raw in
+    rw floats_length (sym (all_stop _ (head test).loop-i.i _ (turn test).loop-i-test.true unsound))
 
-add_i : tie.Need-overflow-add-i invariant-loop decreases-loop
+add_i : tie.Need-overflow_step-i invariant-loop decreases-loop
 add_i c = omega arith
 
-loop_less : tie.Need-loop-smaller invariant-loop decreases-loop
+loop_less : tie.Need-loop-i-smaller invariant-loop decreases-loop
 loop_less c = omega arith
 
-loop_again : tie.Need-loop-preserved invariant-loop decreases-loop
+loop_again : tie.Need-loop-i-preserved invariant-loop decreases-loop
 loop_again c =
-    let at = (head c.before).loop in
-    (omega arith, all_more _ at.i at.inv.1 (sym (tested c.before) ∙ not-false _ c.if1.false))
+    let at = (head c.before).loop-i in
+    (omega arith, all_more _ at.i at.invariant.1 (sym (tested c.before) ∙ not-false _ c.if-not-is_finite.false-raw))
 
-returns_2 : tie.Need-returns-2 invariant-loop decreases-loop
+returns_2 : tie.Need-returns invariant-loop decreases-loop
 unfolding all_finite
-returns_2 c = rw floats_length (sym c.before.loop.invariant.1 ∙ ap (all_to _) (omega arith))
+returns_2 c = rw floats_length (sym c.loop-i.invariant.1 ∙ ap (all_to _) (omega arith))
 
 pub all_finite_spec : {M : Type 1} → statement M
 all_finite_spec =

@@ -5,14 +5,14 @@ use Rattle.words.proofs.Patterns.{nan_pattern, number_pattern}
 use Rattle.words.proofs.float_of.Statement.{statement}
 use Rattle.words.proofs.float_of.Tie as tie
 
-returns : tie.Need-returns
+returns : tie.Need-returns-then-bits-gt-INFINITY
 unfolding of_bits div
-returns c = rw (nan_pattern _ c.if1.true)
+returns c = rw (nan_pattern _ c.if-bits-gt-INFINITY.true)
 
-float_from_bits_result : tie.Need-float-from-bits-result
-float_from_bits_result c = number_pattern _ c.if1.false
+float_from_bits_result : tie.Need-float_from_bits-result
+float_from_bits_result c = number_pattern _ c.if-bits-gt-INFINITY.false
 
-returns_2 : tie.Need-returns-2
+returns_2 : tie.Need-returns
 returns_2 c = search rules
 
 pub float_of_spec : {M : Type 1} → statement M

@@ -7,31 +7,31 @@ use Rattle.words.proofs.Packs.{four_stores}
 use Rattle.words.proofs.put.Statement.{statement}
 use Rattle.words.proofs.put.Tie as tie
 
-cast_bytes : tie.Need-overflow-cast-bytes
+cast_bytes : tie.Need-overflow_cast-bytes
 cast_bytes c = search rules
 
-slice_write_bytes : tie.Need-slice-write-bytes
+slice_write_bytes : tie.Need-bounds-bytes-0
 slice_write_bytes c = search rules
 
-cast_bytes_2 : tie.Need-overflow-cast-bytes-2
+cast_bytes_2 : tie.Need-overflow_cast-bytes-2
 cast_bytes_2 c = search rules
 
-slice_write_bytes_2 : tie.Need-slice-write-bytes-2
+slice_write_bytes_2 : tie.Need-bounds-bytes-1
 slice_write_bytes_2 c = simp length-set (omega arith)
 
-cast_bytes_3 : tie.Need-overflow-cast-bytes-3
+cast_bytes_3 : tie.Need-overflow_cast-bytes-3
 cast_bytes_3 c = search rules
 
-slice_write_bytes_3 : tie.Need-slice-write-bytes-3
+slice_write_bytes_3 : tie.Need-bounds-bytes-2
 slice_write_bytes_3 c = simp length-set (omega arith)
 
-cast_bytes_4 : tie.Need-overflow-cast-bytes-4
+cast_bytes_4 : tie.Need-overflow_cast-bytes-4
 cast_bytes_4 c = search rules
 
-slice_write_bytes_4 : tie.Need-slice-write-bytes-4
+slice_write_bytes_4 : tie.Need-bounds-bytes-3
 slice_write_bytes_4 c = simp length-set (omega arith)
 
-same_length : tie.Need-same-length
+same_length : tie.Need-shape_of-bytes
 same_length c = simp length-set
 
 returns : tie.Need-returns

@@ -10,63 +10,63 @@ use Rattle.words.proofs.Packs.{word_in, pack_none, pack_more}
 use Rattle.words.proofs.put_words.Statement.{statement}
 use Rattle.words.proofs.put_words.Tie as tie
 
-abbrev invariant-loop : tie.invariant-loop
+abbrev invariant-loop : tie.invariant-loop-i
 invariant-loop bytes₀ words i₀ i-end bytes i =
     (i ≤ length words) × (length bytes ≡ length bytes₀) × (bytes ≡ packed (word_in words) i ++ drop (i * 4) bytes₀)
 
-abbrev decreases-loop : tie.decreases-loop
+abbrev decreases-loop : tie.decreases-loop-i
 decreases-loop bytes₀ words i₀ i-end bytes i = length words - i
 
-loop_holds : tie.Need-loop-init invariant-loop decreases-loop
+loop_holds : tie.Need-loop-i-init invariant-loop decreases-loop
 loop_holds c = (omega arith, refl, pack_none _ _)
 
-mul_at : tie.Need-overflow-mul-at invariant-loop decreases-loop
+mul_at : tie.Need-overflow_mul-at invariant-loop decreases-loop
 mul_at c = omega arith
 
-sub_put : tie.Need-overflow-sub-put invariant-loop decreases-loop
+sub_put : tie.Need-slice_bounds-put-count invariant-loop decreases-loop
 sub_put c = omega arith
 
-part_put_start : tie.Need-slice-bounds-put-start invariant-loop decreases-loop
+part_put_start : tie.Need-slice_bounds-put-start invariant-loop decreases-loop
 part_put_start c = omega arith
 
-part_put_end : tie.Need-slice-bounds-put-end invariant-loop decreases-loop
+part_put_end : tie.Need-slice_bounds-put-end invariant-loop decreases-loop
 part_put_end c = omega arith
 
-mul_put : tie.Need-overflow-mul-put invariant-loop decreases-loop
+mul_put : tie.Need-offset_bounds-words-i invariant-loop decreases-loop
 mul_put c = omega arith
 
-shared_slice_read_put : tie.Need-shared-slice-read-put invariant-loop decreases-loop
+shared_slice_read_put : tie.Need-bounds-words-i invariant-loop decreases-loop
 shared_slice_read_put c = omega arith
 
 put_requires : tie.Need-put-requires invariant-loop decreases-loop
 put_requires c κs = rw rest_length (omega arith)
 
-add_i : tie.Need-overflow-add-i invariant-loop decreases-loop
+add_i : tie.Need-overflow_step-i invariant-loop decreases-loop
 add_i c = omega arith
 
-loop_less : tie.Need-loop-smaller invariant-loop decreases-loop
+loop_less : tie.Need-loop-i-smaller invariant-loop decreases-loop
 loop_less c = omega arith
 
-loop_again : tie.Need-loop-preserved invariant-loop decreases-loop
+loop_again : tie.Need-loop-i-preserved invariant-loop decreases-loop
 loop_again c =
     let at-bytes = c.before in
     let at-put = at-bytes.before in
     let at-loop = at-put.before.before.before.before in (
       omega arith,
-      at-bytes.bytes.given.1 ∙ at-loop.loop.invariant.1,
-      pack_more _ at-loop.loop.i _ _ at-loop.loop.bytes _ at-loop.loop.invariant.2 (omega arith) refl at-put.put.ensures,
+      at-bytes.bytes-1.given.1 ∙ at-loop.loop-i.invariant.1,
+      pack_more _ at-loop.loop-i.i _ _ at-loop.loop-i.bytes _ at-loop.loop-i.invariant.2 (omega arith) refl at-put.put.ensures,
     )
 
-same_length : tie.Need-same-length invariant-loop decreases-loop
-same_length c = c.before.loop.invariant.1
+same_length : tie.Need-shape_of-bytes invariant-loop decreases-loop
+same_length c = c.loop-i.invariant.1
 
 returns : tie.Need-returns invariant-loop decreases-loop
 unfolding packed_words
 returns c =
     let at-loop = c.before in
     let at-start = c.before.before.before.before in
-    let e : at-loop.loop.i ≡ length at-start.args.words.now = omega arith in
-    at-loop.loop.invariant.2 ∙ rw e
+    let e : at-loop.loop-i.i ≡ length at-start.args.words.now = omega arith in
+    at-loop.loop-i.invariant.2 ∙ rw e
 
 pub put_words_spec : {M : Type 1} → statement M
 put_words_spec =

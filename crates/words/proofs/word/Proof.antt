@@ -7,40 +7,40 @@ use Rattle.words.proofs.word.Tie as tie
 byte_requires : tie.Need-byte-requires
 byte_requires c κs = search rules
 
-add_byte : tie.Need-overflow-add-byte
+add_byte : tie.Need-overflow_add-at
 add_byte c = search rules
 
 byte_requires_2 : tie.Need-byte-requires-2
 byte_requires_2 c κs = search rules
 
-mul_result : tie.Need-overflow-mul-result
+mul_result : tie.Need-overflow_mul-result
 mul_result c = search rules
 
-add_result : tie.Need-overflow-add-result
+add_result : tie.Need-overflow_add-result
 add_result c = search rules
 
-add_byte_2 : tie.Need-overflow-add-byte-2
+add_byte_2 : tie.Need-overflow_add-at-2
 add_byte_2 c = search rules
 
 byte_requires_3 : tie.Need-byte-requires-3
 byte_requires_3 c κs = search rules
 
-mul_result_2 : tie.Need-overflow-mul-result-2
+mul_result_2 : tie.Need-overflow_mul-result-2
 mul_result_2 c = search rules
 
-add_result_2 : tie.Need-overflow-add-result-2
+add_result_2 : tie.Need-overflow_add-result-2
 add_result_2 c = search rules
 
-add_byte_3 : tie.Need-overflow-add-byte-3
+add_byte_3 : tie.Need-overflow_add-at-3
 add_byte_3 c = search rules
 
 byte_requires_4 : tie.Need-byte-requires-4
 byte_requires_4 c κs = search rules
 
-mul_result_3 : tie.Need-overflow-mul-result-3
+mul_result_3 : tie.Need-overflow_mul-result-3
 mul_result_3 c = search rules
 
-add_result_3 : tie.Need-overflow-add-result-3
+add_result_3 : tie.Need-overflow_add-result-3
 add_result_3 c = search rules
 
 returns : tie.Need-returns

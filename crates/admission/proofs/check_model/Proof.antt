@@ -5,27 +5,27 @@ use borrow.Author.Rules.{rules}
 use Rattle.admission.proofs.check_model.Statement.{statement}
 use Rattle.admission.proofs.check_model.Tie as tie
 
-check_requires : tie.Need-check-requires
+check_requires : tie.Need-check-checked-requires
 check_requires c κs = search rules
 
-enum_known_checked : tie.Need-enum-known-checked
+enum_known_checked : tie.Need-enum_known-checked
 enum_known_checked c = search rules
 
-enum_known_checked_2 : tie.Need-enum-known-checked-2
+enum_known_checked_2 : tie.Need-enum_known-checked-in-Sound-1
 enum_known_checked_2 c = search rules
 
-returns : tie.Need-returns
-returns c = stays8 _ _ _ _ (sym c.before.before.before.check.ensures ∙ c.before.checked.given.1)
+returns : tie.Need-returns-in-Refused
+returns c = stays8 _ _ _ _ (sym c.check-checked.ensures ∙ c.in-Refused.is)
 
-returns_2 : tie.Need-returns-2
+returns_2 : tie.Need-returns-then-model-sizes
 returns_2 c =
-    let sound = c.before.before.before in
-    fits8 _ _ _ _ (sym sound.before.before.check.ensures ∙ sound.checked2.given.1) c.if1.true
+    let sound = c in
+    fits8 _ _ _ _ (sym sound.check-checked.ensures ∙ sound.in-Sound.is) c.if-model-sizes.true
 
-returns_3 : tie.Need-returns-3
+returns_3 : tie.Need-returns-else-model-sizes
 returns_3 c =
-    let sound = c.before.before.before in
-    fails8 _ _ _ _ (sym sound.before.before.check.ensures ∙ sound.checked2.given.1) c.if1.false
+    let sound = c in
+    fails8 _ _ _ _ (sym sound.check-checked.ensures ∙ sound.in-Sound.is) c.if-model-sizes.false
 
 pub check_model_spec : {M : Type 1} → statement M
 check_model_spec =

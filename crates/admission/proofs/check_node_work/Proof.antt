@@ -5,28 +5,28 @@ use borrow.Author.Rules.{rules}
 use Rattle.admission.proofs.check_node_work.Statement.{statement}
 use Rattle.admission.proofs.check_node_work.Tie as tie
 
-check_model_requires : tie.Need-check-model-requires
+check_model_requires : tie.Need-check_model-checked-requires
 check_model_requires c κs = search rules
 
-enum_known_checked : tie.Need-enum-known-checked
+enum_known_checked : tie.Need-enum_known-checked
 enum_known_checked c = search rules
 
-enum_known_checked_2 : tie.Need-enum-known-checked-2
+enum_known_checked_2 : tie.Need-enum_known-checked-in-Sound-1
 enum_known_checked_2 c = search rules
 
-returns : tie.Need-returns
+returns : tie.Need-returns-in-Refused
 returns c =
-    stays_nodes9 _ _ _ _ _ (sym c.before.before.before.check-model.ensures ∙ c.before.checked.given.1)
+    stays_nodes9 _ _ _ _ _ (sym c.check_model-checked.ensures ∙ c.in-Refused.is)
 
-returns_2 : tie.Need-returns-2
+returns_2 : tie.Need-returns-then-sizes-work
 returns_2 c =
-    let sound = c.before.before.before in
-    fits_nodes9 _ _ _ _ _ (sym sound.before.before.check-model.ensures ∙ sound.checked2.given.1) c.if1.true
+    let sound = c in
+    fits_nodes9 _ _ _ _ _ (sym sound.check_model-checked.ensures ∙ sound.in-Sound.is) c.if-sizes-work.true
 
-returns_3 : tie.Need-returns-3
+returns_3 : tie.Need-returns-else-sizes-work
 returns_3 c =
-    let sound = c.before.before.before in
-    fails_nodes9 _ _ _ _ _ (sym sound.before.before.check-model.ensures ∙ sound.checked2.given.1) c.if1.false
+    let sound = c in
+    fails_nodes9 _ _ _ _ _ (sym sound.check_model-checked.ensures ∙ sound.in-Sound.is) c.if-sizes-work.false
 
 pub check_node_work_spec : {M : Type 1} → statement M
 check_node_work_spec =

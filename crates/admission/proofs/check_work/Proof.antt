@@ -5,38 +5,38 @@ use borrow.Author.Rules.{rules}
 use Rattle.admission.proofs.check_work.Statement.{statement}
 use Rattle.admission.proofs.check_work.Tie as tie
 
-check_model_requires : tie.Need-check-model-requires
+check_model_requires : tie.Need-check_model-checked-requires
 check_model_requires c κs = search rules
 
-enum_known_checked : tie.Need-enum-known-checked
+enum_known_checked : tie.Need-enum_known-checked
 enum_known_checked c = search rules
 
-enum_known_checked_2 : tie.Need-enum-known-checked-2
+enum_known_checked_2 : tie.Need-enum_known-checked-in-Sound-1
 enum_known_checked_2 c = search rules
 
-returns : tie.Need-returns
+returns : tie.Need-returns-then-sizes-second
 returns c =
     let at1 = c.before.before in
-    let sound = at1.before.before.before in
-    fits9 _ _ _ _ _ _ (sym sound.before.before.check-model.ensures ∙ sound.checked2.given.1)
-    at1.if1.true c.if2.true
+    let sound = at1 in
+    fits9 _ _ _ _ _ _ (sym sound.check_model-checked.ensures ∙ sound.in-Sound.is)
+    at1.if-sizes-first.true c.if-sizes-second.true
 
-returns_2 : tie.Need-returns-2
+returns_2 : tie.Need-returns-in-Refused
 returns_2 c =
-    stays9 _ _ _ _ _ _ (sym c.before.before.before.check-model.ensures ∙ c.before.checked.given.1)
+    stays9 _ _ _ _ _ _ (sym c.check_model-checked.ensures ∙ c.in-Refused.is)
 
-returns_3 : tie.Need-returns-3
+returns_3 : tie.Need-returns-else-sizes-second
 returns_3 c =
     let at1 = c.before.before in
-    let sound = at1.before.before.before in
-    fails_second9 _ _ _ _ _ _ (sym sound.before.before.check-model.ensures ∙ sound.checked2.given.1)
-    at1.if1.true c.if2.false
+    let sound = at1 in
+    fails_second9 _ _ _ _ _ _ (sym sound.check_model-checked.ensures ∙ sound.in-Sound.is)
+    at1.if-sizes-first.true c.if-sizes-second.false
 
-returns_4 : tie.Need-returns-4
+returns_4 : tie.Need-returns-else-sizes-first
 returns_4 c =
-    let sound = c.before.before.before in
-    fails_first9 _ _ _ _ _ _ (sym sound.before.before.check-model.ensures ∙ sound.checked2.given.1)
-    c.if1.false
+    let sound = c in
+    fails_first9 _ _ _ _ _ _ (sym sound.check_model-checked.ensures ∙ sound.in-Sound.is)
+    c.if-sizes-first.false
 
 pub check_work_spec : {M : Type 1} → statement M
 check_work_spec =

@@ -4,10 +4,10 @@ use borrow.Author.Rules.{rules}
 use Rattle.config.proofs.ends_sound.Statement.{statement}
 use Rattle.config.proofs.ends_sound.Tie as tie
 
-is_finite_requires : tie.Need-is-finite-requires
+is_finite_requires : tie.Need-is_finite-requires
 is_finite_requires c κs = search rules
 
-is_finite_requires_2 : tie.Need-is-finite-requires-2
+is_finite_requires_2 : tie.Need-is_finite-requires-2
 is_finite_requires_2 c κs = search rules
 
 returns : tie.Need-returns

@@ -7,20 +7,20 @@ use borrow.Author.Rules.{rules}
 use Rattle.config.proofs.per_edge.Statement.{statement}
 use Rattle.config.proofs.per_edge.Tie as tie
 
-intervals_sound_requires : tie.Need-intervals-sound-requires
+intervals_sound_requires : tie.Need-intervals_sound-requires
 intervals_sound_requires c κs = search rules
 
-add_result : tie.Need-overflow-add-result
+add_result : tie.Need-overflow_add-result
 add_result c =
-    let b = intervals_between _ (sym c.before.before.intervals-sound.ensures ∙ c.before.if1.true) in omega arith
+    let b = intervals_between _ (sym c.intervals_sound.ensures ∙ c.if-intervals_sound.true) in omega arith
 
-returns : tie.Need-returns
+returns : tie.Need-returns-then-intervals_sound
 unfolding per_edge_of
-returns c = rw (← c.before.before.intervals-sound.ensures, c.before.if1.true)
+returns c = rw (← c.intervals_sound.ensures, c.if-intervals_sound.true)
 
-returns_2 : tie.Need-returns-2
+returns_2 : tie.Need-returns-else-intervals_sound
 unfolding per_edge_of
-returns_2 c = rw (← c.before.intervals-sound.ensures, c.if1.false)
+returns_2 c = rw (← c.intervals_sound.ensures, c.if-intervals_sound.false)
 
 pub per_edge_spec : {M : Type 1} → statement M
 per_edge_spec = tie.close (tie.spec intervals_sound_requires add_result returns returns_2)

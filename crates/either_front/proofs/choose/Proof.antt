@@ -14,17 +14,17 @@ taken : (n : ℕ) (xs : List Float) → n ≤ length xs → n ≡ length (take n
 taken n xs h = sym (length-take-le n xs h)
 
 -- ---- the needs
-slice_aggregate_result : tie.Need-slice-aggregate-result
+slice_aggregate_result : tie.Need-slice_bounds-result-end
 slice_aggregate_result c = search (rules, taken)
 
-returns : tie.Need-returns
-returns c = (rw c.before.if1.true, rw c.before.if1.true)
+returns : tie.Need-returns-then-first
+returns c = (rw c.if-first.true, rw c.if-first.true)
 
-slice_aggregate_result_2 : tie.Need-slice-aggregate-result-2
+slice_aggregate_result_2 : tie.Need-slice_bounds-result-end-2
 slice_aggregate_result_2 c = search (rules, taken)
 
-returns_2 : tie.Need-returns-2
-returns_2 c = (rw c.before.if1.false, rw c.before.if1.false)
+returns_2 : tie.Need-returns
+returns_2 c = (rw c.if-first.false, rw c.if-first.false)
 
 pub choose_spec : {M : Type 1} → statement M
 choose_spec = tie.close (tie.spec slice_aggregate_result returns slice_aggregate_result_2 returns_2)

@@ -10,55 +10,55 @@ use Rattle.gradients.proofs.Adding.{plus_start, plus_one}
 use Rattle.gradients.proofs.add_coefficients.Statement.{statement}
 use Rattle.gradients.proofs.add_coefficients.Tie as tie
 
-abbrev invariant-loop : tie.invariant-loop
+abbrev invariant-loop : tie.invariant-loop-k
 invariant-loop grid u x gradients₀ n k₀ gradients k =
     (k ≤ n) × (length gradients ≡ length gradients₀)
     × (gradients ≡ plus_of gradients₀ (tabulate (weighted (basis_of grid) u x) k))
 
-abbrev decreases-loop : tie.decreases-loop
+abbrev decreases-loop : tie.decreases-loop-k
 decreases-loop grid u x gradients₀ n k₀ gradients k = n - k
 
-add_n : tie.Need-overflow-add-n invariant-loop decreases-loop
+add_n : tie.Need-overflow_add-n invariant-loop decreases-loop
 add_n c = omega arith
 
-loop_holds : tie.Need-loop-init invariant-loop decreases-loop
+loop_holds : tie.Need-loop-k-init invariant-loop decreases-loop
 loop_holds c = (omega arith, refl, plus_start _ _)
 
-mul_gradients : tie.Need-overflow-mul-gradients invariant-loop decreases-loop
+mul_gradients : tie.Need-offset_bounds-gradients-k invariant-loop decreases-loop
 mul_gradients c = omega arith
 
-slice_read_gradients : tie.Need-slice-read-gradients invariant-loop decreases-loop
+slice_read_gradients : tie.Need-bounds-gradients-k invariant-loop decreases-loop
 slice_read_gradients c = omega arith
 
-basis_value_requires : tie.Need-basis-value-requires invariant-loop decreases-loop
+basis_value_requires : tie.Need-basis_value-requires invariant-loop decreases-loop
 basis_value_requires c κs = omega arith
 
-mul_gradients_2 : tie.Need-overflow-mul-gradients-2 invariant-loop decreases-loop
+mul_gradients_2 : tie.Need-offset_bounds-gradients-k-in-loop-k invariant-loop decreases-loop
 mul_gradients_2 c = omega arith
 
-slice_write_gradients : tie.Need-slice-write-gradients invariant-loop decreases-loop
+slice_write_gradients : tie.Need-bounds-gradients-k-in-loop-k invariant-loop decreases-loop
 slice_write_gradients c = omega arith
 
-add_k : tie.Need-overflow-add-k invariant-loop decreases-loop
+add_k : tie.Need-overflow_step-k invariant-loop decreases-loop
 add_k c = omega arith
 
-loop_less : tie.Need-loop-smaller invariant-loop decreases-loop
+loop_less : tie.Need-loop-k-smaller invariant-loop decreases-loop
 loop_less c = omega arith
 
-loop_again : tie.Need-loop-preserved invariant-loop decreases-loop
+loop_again : tie.Need-loop-k-preserved invariant-loop decreases-loop
 loop_again c = (
   omega arith,
   simp length-set (omega arith),
-  plus_one _ _ _ _ _ c.before.before.before.loop.invariant.2 (omega arith) (rw c.basis-value.ensures),
+  plus_one _ _ _ _ _ c.loop-k.invariant.2 (omega arith) (rw c.basis_value.ensures),
 )
 
-same_length : tie.Need-same-length invariant-loop decreases-loop
-same_length c = c.before.loop.invariant.1
+same_length : tie.Need-shape_of-gradients invariant-loop decreases-loop
+same_length c = c.loop-k.invariant.1
 
 returns : tie.Need-returns invariant-loop decreases-loop
 returns c =
-    let e : c.before.loop.k ≡ c.before.before.before.before.args.grid.intervals + 3 = omega arith in
-    rw (← e) c.before.loop.invariant.2
+    let e : c.loop-k.k ≡ c.args.grid.intervals + 3 = omega arith in
+    rw (← e) c.loop-k.invariant.2
 
 pub add_coefficients_spec : {M : Type 1} → statement M
 add_coefficients_spec =

@@ -10,93 +10,93 @@ use Rattle.gradients.proofs.Edges.{Turn, turn_at, lent, edge_turn}
 use Rattle.gradients.proofs.add_node.Statement.{statement}
 use Rattle.gradients.proofs.add_node.Tie as tie
 
-abbrev invariant-loop : tie.invariant-loop
+abbrev invariant-loop : tie.invariant-loop-i
 invariant-loop grid table params inputs up gradients₀ stride i₀ i-end gradients i =
     Parts (edge_slots (basis_of grid) params inputs up) (length inputs) gradients₀ gradients i
 
-abbrev decreases-loop : tie.decreases-loop
+abbrev decreases-loop : tie.decreases-loop-i
 decreases-loop grid table params inputs up gradients₀ stride i₀ i-end gradients i = length inputs - i
 
 -- ---- from place to place
-abbrev start : tie.At-loop invariant-loop decreases-loop → tie.Start invariant-loop decreases-loop
+abbrev start : tie.At-loop-i invariant-loop decreases-loop → tie.Start invariant-loop decreases-loop
 start c = c.before.before.before.before.before
 
-abbrev asked : tie.After-add-edge-arg2 invariant-loop decreases-loop → tie.In-loop invariant-loop decreases-loop
+abbrev asked : tie.After-add_edge-arg-in-loop-i-1 invariant-loop decreases-loop → tie.In-loop-i invariant-loop decreases-loop
 asked c = c.before.before.before
 
-abbrev turned : tie.After-slice-known2 invariant-loop decreases-loop → tie.After-add-edge invariant-loop decreases-loop
+abbrev turned : tie.After-slice_known-in-loop-i-1 invariant-loop decreases-loop → tie.After-add_edge invariant-loop decreases-loop
 turned c = c.before.before
 
 -- ---- what is known in a turn
-known : (c : tie.In-loop invariant-loop decreases-loop)
+known : (c : tie.In-loop-i invariant-loop decreases-loop)
     → let a = (start c.before).args in
-    let loop = c.before.loop in
+    let loop = c.loop-i in
     Turn (a.grid.intervals + 5) loop.i a.params.now a.gradients.now loop.gradients
-known c = turn_at _ _ _ _ c.loop-test.true (start c.before).pre.0 c.before.loop.invariant.size
+known c = turn_at _ _ _ _ c.loop-i-test.true (start c.before).requires.0 c.loop-i.invariant.size
 
 -- ---- the needs
-add_stride : tie.Need-overflow-add-stride invariant-loop decreases-loop
+add_stride : tie.Need-overflow_add-stride invariant-loop decreases-loop
 add_stride c = omega arith
 
-loop_holds : tie.Need-loop-init invariant-loop decreases-loop
+loop_holds : tie.Need-loop-i-init invariant-loop decreases-loop
 loop_holds c = parts_none
 
-mul_at : tie.Need-overflow-mul-at invariant-loop decreases-loop
+mul_at : tie.Need-overflow_mul-at invariant-loop decreases-loop
 mul_at c = omega (arith, known c)
 
-mul_add_edge : tie.Need-overflow-mul-add-edge invariant-loop decreases-loop
+mul_add_edge : tie.Need-offset_bounds-params-at invariant-loop decreases-loop
 mul_add_edge c = omega (arith, known c)
 
-sub_add_edge : tie.Need-overflow-sub-add-edge invariant-loop decreases-loop
+sub_add_edge : tie.Need-slice_bounds-add_edge-count invariant-loop decreases-loop
 sub_add_edge c = omega (arith, known c)
 
-part_add_edge_start : tie.Need-slice-bounds-add-edge-start invariant-loop decreases-loop
+part_add_edge_start : tie.Need-slice_bounds-add_edge-start invariant-loop decreases-loop
 part_add_edge_start c = omega (arith, known c)
 
-part_add_edge_end : tie.Need-slice-bounds-add-edge-end invariant-loop decreases-loop
+part_add_edge_end : tie.Need-slice_bounds-add_edge-end invariant-loop decreases-loop
 part_add_edge_end c = omega (arith, known c)
 
-mul_add_edge_2 : tie.Need-overflow-mul-add-edge-2 invariant-loop decreases-loop
+mul_add_edge_2 : tie.Need-offset_bounds-inputs-i invariant-loop decreases-loop
 mul_add_edge_2 c = omega arith
 
-shared_slice_read_add_edge : tie.Need-shared-slice-read-add-edge invariant-loop decreases-loop
+shared_slice_read_add_edge : tie.Need-bounds-inputs-i invariant-loop decreases-loop
 shared_slice_read_add_edge c = omega arith
 
-mul_add_edge_3 : tie.Need-overflow-mul-add-edge-3 invariant-loop decreases-loop
+mul_add_edge_3 : tie.Need-offset_bounds-gradients-at invariant-loop decreases-loop
 mul_add_edge_3 c = omega (arith, known c.before.before)
 
-sub_add_edge_2 : tie.Need-overflow-sub-add-edge-2 invariant-loop decreases-loop
+sub_add_edge_2 : tie.Need-slice_bounds-add_edge-count-in-loop-i invariant-loop decreases-loop
 sub_add_edge_2 c = omega (arith, known c.before.before)
 
-part_add_edge_start_2 : tie.Need-slice-bounds-add-edge-start-2 invariant-loop decreases-loop
+part_add_edge_start_2 : tie.Need-slice_bounds-add_edge-start-in-loop-i invariant-loop decreases-loop
 part_add_edge_start_2 c = omega (arith, known c.before.before)
 
-part_add_edge_end_2 : tie.Need-slice-bounds-add-edge-end-2 invariant-loop decreases-loop
+part_add_edge_end_2 : tie.Need-slice_bounds-add_edge-end-in-loop-i invariant-loop decreases-loop
 part_add_edge_end_2 c = omega (arith, known c.before.before)
 
-add_edge_requires : tie.Need-add-edge-requires invariant-loop decreases-loop
+add_edge_requires : tie.Need-add_edge-requires invariant-loop decreases-loop
 add_edge_requires c κs =
-    let pre = (start (asked c).before).pre in
+    let pre = (start (asked c).before).requires in
     (lent pre.0.grid (known (asked c)), pre.1)
 
-add_i : tie.Need-overflow-add-i invariant-loop decreases-loop
+add_i : tie.Need-overflow_step-i invariant-loop decreases-loop
 add_i c = omega arith
 
-loop_less : tie.Need-loop-smaller invariant-loop decreases-loop
+loop_less : tie.Need-loop-i-smaller invariant-loop decreases-loop
 loop_less c = omega arith
 
-loop_again : tie.Need-loop-preserved invariant-loop decreases-loop
+loop_again : tie.Need-loop-i-preserved invariant-loop decreases-loop
 loop_again c =
     let t = asked (turned c).before in
     let a = (start t.before).args in
-    parts_more _ _ (λ k. tab_length _ _) t.before.loop.inv t.loop-test.taken (known t).first
-    (edge_turn (basis_of a.grid) a.params.now a.inputs.now a.up _ _ _ (turned c).add-edge.ensures)
+    parts_more _ _ (λ k. tab_length _ _) t.loop-i.invariant t.loop-i-test.true (known t).first
+    (edge_turn (basis_of a.grid) a.params.now a.inputs.now a.up _ _ _ (turned c).add_edge.ensures)
 
-same_length : tie.Need-same-length invariant-loop decreases-loop
-same_length c = c.before.loop.invariant.size
+same_length : tie.Need-shape_of-gradients invariant-loop decreases-loop
+same_length c = c.loop-i.invariant.size
 
 returns : tie.Need-returns invariant-loop decreases-loop
-returns c = parts_all c.before.loop.invariant (omega arith)
+returns c = parts_all c.loop-i.invariant (omega arith)
 
 pub add_node_spec : {M : Type 1} → statement M
 add_node_spec =

@@ -10,43 +10,43 @@ use Rattle.layers.specs.Layer.{dot_of}
 use Rattle.gradients.proofs.slope_dot.Statement.{statement}
 use Rattle.gradients.proofs.slope_dot.Tie as tie
 
-abbrev invariant-loop : tie.invariant-loop
+abbrev invariant-loop : tie.invariant-loop-k
 invariant-loop grid coefficients x n sum₀ k₀ sum k = (k ≤ n) × (sum ≡ sum_to (λ (j : ℕ). at coefficients j ⊗ (basis_of grid).slope j x) k)
 
-abbrev decreases-loop : tie.decreases-loop
+abbrev decreases-loop : tie.decreases-loop-k
 decreases-loop grid coefficients x n sum₀ k₀ sum k = n - k
 
-add_n : tie.Need-overflow-add-n invariant-loop decreases-loop
+add_n : tie.Need-overflow_add-n invariant-loop decreases-loop
 add_n c = omega arith
 
-loop_holds : tie.Need-loop-init invariant-loop decreases-loop
+loop_holds : tie.Need-loop-k-init invariant-loop decreases-loop
 loop_holds c = (omega arith, sum_none _ _)
 
-mul_sum : tie.Need-overflow-mul-sum invariant-loop decreases-loop
+mul_sum : tie.Need-offset_bounds-coefficients-k invariant-loop decreases-loop
 mul_sum c = omega arith
 
-shared_slice_read_sum : tie.Need-shared-slice-read-sum invariant-loop decreases-loop
+shared_slice_read_sum : tie.Need-bounds-coefficients-k invariant-loop decreases-loop
 shared_slice_read_sum c = omega arith
 
-basis_slope_requires : tie.Need-basis-slope-requires invariant-loop decreases-loop
+basis_slope_requires : tie.Need-basis_slope-requires invariant-loop decreases-loop
 basis_slope_requires c κs = omega arith
 
-add_k : tie.Need-overflow-add-k invariant-loop decreases-loop
+add_k : tie.Need-overflow_step-k invariant-loop decreases-loop
 add_k c = omega arith
 
-loop_less : tie.Need-loop-smaller invariant-loop decreases-loop
+loop_less : tie.Need-loop-k-smaller invariant-loop decreases-loop
 loop_less c = omega arith
 
-loop_again : tie.Need-loop-preserved invariant-loop decreases-loop
+loop_again : tie.Need-loop-k-preserved invariant-loop decreases-loop
 loop_again c = (
   omega arith,
-  sum_more _ _ _ _ _ c.before.before.before.loop.invariant.1
-      (rw c.basis-slope.ensures),
+  sum_more _ _ _ _ _ c.loop-k.invariant.1
+      (rw c.basis_slope.ensures),
 )
 
 returns : tie.Need-returns invariant-loop decreases-loop
 unfolding dot_of
-returns c = c.before.loop.invariant.1 ∙ ap (sum_to _) (omega arith)
+returns c = c.loop-k.invariant.1 ∙ ap (sum_to _) (omega arith)
 
 pub slope_dot_spec : {M : Type 1} → statement M
 slope_dot_spec =

@@ -4,19 +4,19 @@ use borrow.Author.Rules.{rules}
 use Rattle.image_layout.proofs.grid_at.Statement.{statement}
 use Rattle.image_layout.proofs.grid_at.Tie as tie
 
-add_size_lem : tie.Need-overflow-add-size
+add_size_lem : tie.Need-overflow_add-at
 add_size_lem c = search rules
 
 size_requires : tie.Need-size-requires
 size_requires c κs = search rules
 
-add_float : tie.Need-overflow-add-float
+add_float : tie.Need-overflow_add-at-2
 add_float c = search rules
 
 float_requires : tie.Need-float-requires
 float_requires c κs = search rules
 
-add_float_2 : tie.Need-overflow-add-float-2
+add_float_2 : tie.Need-overflow_add-at-3
 add_float_2 c = search rules
 
 float_requires_2 : tie.Need-float-requires-2

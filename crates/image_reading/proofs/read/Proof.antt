@@ -9,59 +9,59 @@ use Rattle.image_reading.proofs.read.Statement.{statement}
 use Rattle.image_reading.proofs.read.Tie as tie
 
 -- ---- from place to place
-abbrev entry : tie.After-describe → tie.Start
+abbrev entry : tie.After-describe-described → tie.Start
 entry c = c.before.before
 
-abbrev accepted : tie.After-known-told2 → tie.After-describe
-accepted c = c.before.before.before
+abbrev accepted : tie.In-Sound → tie.After-describe-described
+accepted c = c.before
 
-abbrev refused : tie.After-known-told → tie.After-describe
-refused c = c.before.before.before
+abbrev refused : tie.In-Refused → tie.After-describe-described
+refused c = c.before
 
 -- ---- what is known of an image that `describe` accepts, and of one that it refuses
-sound : (c : tie.After-known-told2)
-    → describe_of (entry (accepted c)).args.image.now ≡ Sound c.before.described2.given.0.0
-sound c = sym (accepted c).describe.ensures ∙ c.before.described2.given.1
+sound : (c : tie.In-Sound)
+    → describe_of (entry (accepted c)).args.image.now ≡ Sound c.in-Sound.given.0.0
+sound c = sym (accepted c).describe-described.ensures ∙ c.in-Sound.is
 
-unsound : (c : tie.After-known-told)
-    → describe_of (entry (refused c)).args.image.now ≡ Refused c.before.described.given.0.0
-unsound c = sym (refused c).describe.ensures ∙ c.before.described.given.1
+unsound : (c : tie.In-Refused)
+    → describe_of (entry (refused c)).args.image.now ≡ Refused c.in-Refused.given.0.0
+unsound c = sym (refused c).describe-described.ensures ∙ c.in-Refused.is
 
 -- ---- the needs
-describe_requires : tie.Need-describe-requires
+describe_requires : tie.Need-describe-described-requires
 describe_requires c κs = search rules
 
-enum_known_described : tie.Need-enum-known-described
+enum_known_described : tie.Need-enum_known-described
 enum_known_described c = search rules
 
-sub_result : tie.Need-overflow-sub-result
+sub_result : tie.Need-slice_bounds-result-count
 sub_result c = search rules
 
-part_result_start : tie.Need-slice-bounds-result-start
+part_result_start : tie.Need-slice_bounds-result-start
 part_result_start c = search rules
 
-part_result_end : tie.Need-slice-bounds-result-end
+part_result_end : tie.Need-slice_bounds-result-end
 part_result_end c = search rules
 
-enum_known_described_2 : tie.Need-enum-known-described-2
+enum_known_described_2 : tie.Need-enum_known-described-in-Sound-1
 enum_known_described_2 c = search rules
 
-mul_end : tie.Need-overflow-mul-end
+mul_end : tie.Need-overflow_mul-end
 mul_end c = omega (arith, described_room _ _ (sound c.before))
 
-sub_result_2 : tie.Need-overflow-sub-result-2
+sub_result_2 : tie.Need-slice_bounds-result-count-in-Sound
 sub_result_2 c = search rules
 
-part_result_start_2 : tie.Need-slice-bounds-result-start-2
+part_result_start_2 : tie.Need-slice_bounds-result-start-in-Sound
 part_result_start_2 c = search rules
 
-part_result_end_2 : tie.Need-slice-bounds-result-end-2
+part_result_end_2 : tie.Need-slice_bounds-result-end-in-Sound
 part_result_end_2 c = omega (arith, described_room _ _ (sound c.before))
 
-returns : tie.Need-returns
+returns : tie.Need-returns-in-Refused
 returns c = read_refused _ _ _ (unsound c.before)
 
-returns_2 : tie.Need-returns-2
+returns_2 : tie.Need-returns-in-Sound
 returns_2 c = read_accepted _ _ _ (sound c.before.before)
 
 pub read_spec : {M : Type 1} → statement M

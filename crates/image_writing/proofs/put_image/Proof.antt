@@ -5,62 +5,62 @@ use Rattle.image_writing.proofs.put_image.Statement.{statement}
 use Rattle.image_writing.proofs.put_image.Tie as tie
 
 -- ---- from place to place
-abbrev last : tie.After-put-words → tie.After-trailer-words
+abbrev last : tie.After-put_words → tie.After-trailer_words-last
 last c = c.before.before.before
 
-abbrev sized : tie.After-trailer-words → tie.After-put-sizes
+abbrev sized : tie.After-trailer_words-last → tie.After-put_sizes
 sized c = c.before.before.before
 
-abbrev floated : tie.After-put-sizes → tie.After-put-floats
+abbrev floated : tie.After-put_sizes → tie.After-put_floats
 floated c = c.before.before.before.before
 
-abbrev entry : tie.After-put-floats → tie.Start
+abbrev entry : tie.After-put_floats → tie.Start
 entry c = c.before.before.before.before.before
 
 -- ---- the needs
-put_floats_requires : tie.Need-put-floats-requires
+put_floats_requires : tie.Need-put_floats-requires
 put_floats_requires c κs = search rules
 
-mul_after_model : tie.Need-overflow-mul-after-model
+mul_after_model : tie.Need-overflow_mul-after_model
 mul_after_model c = search rules
 
-sub_put_sizes : tie.Need-overflow-sub-put-sizes
+sub_put_sizes : tie.Need-slice_bounds-put_sizes-count
 sub_put_sizes c = search rules
 
-part_put_sizes_start : tie.Need-slice-bounds-put-sizes-start
+part_put_sizes_start : tie.Need-slice_bounds-put_sizes-start
 part_put_sizes_start c = search rules
 
-part_put_sizes_end : tie.Need-slice-bounds-put-sizes-end
+part_put_sizes_end : tie.Need-slice_bounds-put_sizes-end
 part_put_sizes_end c = search rules
 
-put_sizes_requires : tie.Need-put-sizes-requires
+put_sizes_requires : tie.Need-put_sizes-requires
 put_sizes_requires c κs = search rules
 
-mul_after_widths : tie.Need-overflow-mul-after-widths
+mul_after_widths : tie.Need-overflow_mul-after_widths
 mul_after_widths c = search rules
 
-add_after_widths : tie.Need-overflow-add-after-widths
+add_after_widths : tie.Need-overflow_add-after_widths
 add_after_widths c = search rules
 
-trailer_words_requires : tie.Need-trailer-words-requires
+trailer_words_requires : tie.Need-trailer_words-last-requires
 trailer_words_requires c κs = search rules
 
-sub_put_words : tie.Need-overflow-sub-put-words
+sub_put_words : tie.Need-slice_bounds-put_words-count
 sub_put_words c = search rules
 
-part_put_words_start : tie.Need-slice-bounds-put-words-start
+part_put_words_start : tie.Need-slice_bounds-put_words-start
 part_put_words_start c = search rules
 
-part_put_words_end : tie.Need-slice-bounds-put-words-end
+part_put_words_end : tie.Need-slice_bounds-put_words-end
 part_put_words_end c = search rules
 
-slice_aggregate_put_words : tie.Need-slice-aggregate-put-words
+slice_aggregate_put_words : tie.Need-slice_bounds-put_words-end-2
 slice_aggregate_put_words c = search rules
 
-put_words_requires : tie.Need-put-words-requires
+put_words_requires : tie.Need-put_words-requires
 put_words_requires c κs = search rules
 
-same_length : tie.Need-same-length
+same_length : tie.Need-shape_of-image
 same_length c = search rules
 
 returns : tie.Need-returns
@@ -68,8 +68,8 @@ returns c =
     let third = c.before.before in
     let second = sized (last third) in
     let first = floated second in
-    placed _ _ _ _ _ _ _ _ (entry first).pre (last third).trailer-words.ensures first.put-floats.ensures
-    second.put-sizes.ensures third.put-words.ensures
+    placed _ _ _ _ _ _ _ _ (entry first).requires (last third).trailer_words-last.ensures first.put_floats.ensures
+    second.put_sizes.ensures third.put_words.ensures
 
 pub put_image_spec : {M : Type 1} → statement M
 put_image_spec =

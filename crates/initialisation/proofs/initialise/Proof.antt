@@ -40,24 +40,24 @@ module _ (ws : List ℕ) (g : Grid) (seed : ℕ) (ps : List Float) where
   drawn ps' z h = record { answer = rw z; model = rw z h }
 
 -- ---- from place to place, and what is known there
-abbrev entry : tie.After-enum-told → tie.Start
-entry c = c.before.before.before.before.before
+abbrev entry : tie.In-Sound → tie.Start
+entry c = c.before.before.before.before
 
-sound : (c : tie.After-enum-told)
+sound : (c : tie.In-Sound)
     → let a = (entry c).args in initialise_fault a.widths.now a.grid a.model.now ≡ 0
 sound c =
     let a = (entry c).args in
     passed a.widths.now a.grid a.seed a.model.now _
-    (sym c.before.before.check-model.ensures ∙ c.enum_told.given.1)
+    (sym c.check_model-checked.ensures ∙ c.in-Sound.is)
 
 -- ---- the needs
-check_model_requires : tie.Need-check-model-requires
+check_model_requires : tie.Need-check_model-checked-requires
 check_model_requires c κs = search rules
 
-enum_known_checked : tie.Need-enum-known-checked
+enum_known_checked : tie.Need-enum_known-checked
 enum_known_checked c = search rules
 
-enum_told : tie.Need-enum-told
+enum_told : tie.Need-enum_told-1
 enum_told c = search rules
 
 initialise_requires : tie.Need-initialise-requires
@@ -65,13 +65,13 @@ initialise_requires c κs =
     let p = past8 _ _ _ (sound c.before) in
     record { walkable = walkable p.size; params = sym p.model }
 
-returns : tie.Need-returns
-returns c = refused _ _ _ _ _ (sym c.before.before.before.check-model.ensures ∙ c.before.checked.given.1)
+returns : tie.Need-returns-in-Refused
+returns c = refused _ _ _ _ _ (sym c.check_model-checked.ensures ∙ c.in-Refused.is)
 
-same_length : tie.Need-same-length
+same_length : tie.Need-shape_of-model
 same_length c = search rules
 
-returns_2 : tie.Need-returns-2
+returns_2 : tie.Need-returns-in-Sound
 returns_2 c =
     let drew = c.before.before in drawn _ _ _ _ _ (sound drew.before.before) drew.initialise.ensures
 

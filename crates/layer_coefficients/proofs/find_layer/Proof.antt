@@ -19,20 +19,20 @@ decreases-loop widths grid layer found₀ counter₀ found counter = layer - cou
 here : {g : Grid} {ws : List ℕ} {l : ℕ} {c : Layer} → Stands g ws l c → Stands g ws c.index c
 here {g} {ws} {l} {c} s = subst (λ (i : ℕ). Stands g ws i c) (sym s.index) s
 
-first_requires : tie.Need-first-requires invariant-loop decreases-loop
-first_requires c κs = c.before.requires.0.grid
+first_requires : tie.Need-first-found-requires invariant-loop decreases-loop
+first_requires c κs = c.requires.0.grid
 
 loop_holds : tie.Need-loop-init invariant-loop decreases-loop
-loop_holds c = (omega arith, c.first.ensures)
+loop_holds c = (omega arith, c.first-found.ensures)
 
-next_requires : tie.Need-next-requires invariant-loop decreases-loop
+next_requires : tie.Need-next-found-requires invariant-loop decreases-loop
 next_requires c κs =
     let at-loop = c.before in
-    let at-start = at-loop.before.before.before in
+    let at-start = at-loop in
     let stands = at-loop.loop.invariant.1 in
     (at-start.requires.0, omega (arith, stands.index, at-start.requires.1), here stands)
 
-add_counter : tie.Need-overflow-add-counter invariant-loop decreases-loop
+add_counter : tie.Need-overflow_step invariant-loop decreases-loop
 add_counter c = omega arith
 
 loop_less : tie.Need-loop-smaller invariant-loop decreases-loop
@@ -40,13 +40,13 @@ loop_less c = omega arith
 
 loop_again : tie.Need-loop-preserved invariant-loop decreases-loop
 loop_again c =
-    let at-loop = c.before.before in
-    (omega arith, rw at-loop.loop.invariant.1.index at c.next.ensures)
+    let at-loop = c in
+    (omega arith, rw at-loop.loop.invariant.1.index at c.next-found.ensures)
 
 returns : tie.Need-returns invariant-loop decreases-loop
 returns c =
-    let at-loop = c.before in
-    let last : at-loop.loop.counter ≡ at-loop.before.before.before.args.layer = omega arith in
+    let at-loop = c in
+    let last : at-loop.loop.counter ≡ at-loop.args.layer = omega arith in
     rw last at at-loop.loop.invariant.1
 
 pub find_layer_spec : {M : Type 1} → statement M

@@ -5,20 +5,20 @@ use borrow.Author.Rules.{rules}
 use Rattle.leaves.proofs.kan_basis_value.Statement.{statement}
 use Rattle.leaves.proofs.kan_basis_value.Tie as tie
 
-add_if2 : tie.Need-overflow-add-if2
+add_if2 : tie.Need-overflow_add-intervals
 add_if2 c = search rules
 
-basis_value_requires : tie.Need-basis-value-requires
+basis_value_requires : tie.Need-basis_value-requires
 basis_value_requires c κs = search rules
 
-returns : tie.Need-returns
-returns c = c.basis-value.ensures ∙ within _ _ _ c.before.before.if1.true c.before.if2.true
+returns : tie.Need-returns-then-i-intervals
+returns c = c.basis_value.ensures ∙ within _ _ _ c.if-intervals-le250000.true c.if-i-intervals.true
 
-returns_2 : tie.Need-returns-2
-returns_2 c = no_index _ _ _ c.before.if1.true c.if2.false
+returns_2 : tie.Need-returns-else-i-intervals
+returns_2 c = no_index _ _ _ c.if-intervals-le250000.true c.if-i-intervals.false
 
-returns_3 : tie.Need-returns-3
-returns_3 c = too_fine _ _ _ c.if1.false
+returns_3 : tie.Need-returns-else-intervals-le250000
+returns_3 c = too_fine _ _ _ c.if-intervals-le250000.false
 
 pub kan_basis_value_spec : {M : Type 1} → statement M
 kan_basis_value_spec =

@@ -12,31 +12,31 @@ use Rattle.npy_tokens.proofs.Texts.{part_length, part_at_lem, plain_none, plain_
 use Rattle.npy_tokens.proofs.is_plain.Statement.{statement}
 use Rattle.npy_tokens.proofs.is_plain.Tie as tie
 
-sub_digits : tie.Need-overflow-sub-digits
+sub_digits : tie.Need-overflow_sub-digits
 sub_digits c = search rules
 
-returns : tie.Need-returns
+returns : tie.Need-returns-then-digits-eq0
 returns c =
-    let given = c.before in
-    sym (plain_none _ (part_length _ _ _ given.requires.0 given.requires.1 ∙ c.if1.true))
+    let given = c in
+    sym (plain_none _ (part_length _ _ _ given.requires.0 given.requires.1 ∙ c.if-digits-eq0.true))
 
-returns_2 : tie.Need-returns-2
+returns_2 : tie.Need-returns-then-digits-eq1
 returns_2 c =
-    let given = c.before.before in
-    sym (plain_one _ (part_length _ _ _ given.requires.0 given.requires.1 ∙ c.if2.true))
+    let given = c in
+    sym (plain_one _ (part_length _ _ _ given.requires.0 given.requires.1 ∙ c.if-digits-eq1.true))
 
-shared_slice_read_result : tie.Need-shared-slice-read-result
-shared_slice_read_result c = omega (arith, c.before.before.before.requires)
+shared_slice_read_result : tie.Need-bounds-text-from
+shared_slice_read_result c = omega (arith, c.requires)
 
-returns_3 : tie.Need-returns-3
+returns_3 : tie.Need-returns
 returns_3 c =
-    let given = c.before.before.before in
+    let given = c in
     let text = given.args.text.now in
     let digits = part text given.args.from given.args.end in
     let several : 2 ≤ length digits =
-    rw (part_length text _ _ given.requires.0 given.requires.1) (omega (arith, c.before.if2.false, c.before.before.if1.false)) in
+    rw (part_length text _ _ given.requires.0 given.requires.1) (omega (arith, c.if-digits-eq1.false, c.if-digits-eq0.false)) in
     let first : get_or digits 0 0 ≡ get_or text given.args.from 0 =
-    part_at_lem text _ _ given.requires.0 given.requires.1 0 (omega (arith, c.before.if2.false, c.before.before.if1.false))
+    part_at_lem text _ _ given.requires.0 given.requires.1 0 (omega (arith, c.if-digits-eq1.false, c.if-digits-eq0.false))
     ∙ ap (λ (p : ℕ). get_or text p 0) (add-zero given.args.from) in
     sym (plain_more digits several ∙ ap (λ (d : ℕ). not (eqb d 48)) first)
 

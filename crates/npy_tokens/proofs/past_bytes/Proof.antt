@@ -11,49 +11,49 @@ use Rattle.npy_tokens.proofs.Texts.{past_more}
 use Rattle.npy_tokens.proofs.past_bytes.Statement.{statement}
 use Rattle.npy_tokens.proofs.past_bytes.Tie as tie
 
-abbrev invariant-loop : tie.invariant-loop
+abbrev invariant-loop : tie.invariant-loop-i
 invariant-loop text at bytes next₀ i₀ i-end next i =
     (i ≤ length bytes) × (next ≤ length text)
     × (after_bytes bytes (drop at text) ≡ after_bytes (drop i bytes) (drop next text))
 
-abbrev decreases-loop : tie.decreases-loop
+abbrev decreases-loop : tie.decreases-loop-i
 decreases-loop text at bytes next₀ i₀ i-end next i = length bytes - i
 
-loop_holds : tie.Need-loop-init invariant-loop decreases-loop
-loop_holds c = (omega arith, c.before.before.requires, refl)
+loop_holds : tie.Need-loop-i-init invariant-loop decreases-loop
+loop_holds c = (omega arith, c.requires, refl)
 
-shared_slice_read_past_byte : tie.Need-shared-slice-read-past-byte invariant-loop decreases-loop
+shared_slice_read_past_byte : tie.Need-bounds-bytes-i invariant-loop decreases-loop
 shared_slice_read_past_byte c = omega arith
 
-past_byte_requires : tie.Need-past-byte-requires invariant-loop decreases-loop
+past_byte_requires : tie.Need-past_byte-next-requires invariant-loop decreases-loop
 past_byte_requires c κs = search rules
 
-add_i : tie.Need-overflow-add-i invariant-loop decreases-loop
+add_i : tie.Need-overflow_step-i invariant-loop decreases-loop
 add_i c = omega arith
 
-loop_less : tie.Need-loop-smaller invariant-loop decreases-loop
+loop_less : tie.Need-loop-i-smaller invariant-loop decreases-loop
 loop_less c = omega arith
 
-loop_again : tie.Need-loop-preserved invariant-loop decreases-loop
+loop_again : tie.Need-loop-i-preserved invariant-loop decreases-loop
 loop_again c =
-    let turn = c.before.before in
-    let found = c.past-byte.ensures in
-    let bytes = turn.before.before.before.before.args.bytes.now in (
+    let turn = c in
+    let found = c.past_byte-next.ensures in
+    let bytes = turn.args.bytes.now in (
       omega arith,
       found.inside,
-      turn.before.loop.invariant.2 ∙ past_more bytes _ turn.before.loop.i turn.loop-test.true
-          ∙ ap (after_bytes (drop (turn.before.loop.i + 1) bytes)) (sym found.rest),
+      turn.loop-i.invariant.2 ∙ past_more bytes _ turn.loop-i.i turn.loop-i-test.true
+          ∙ ap (after_bytes (drop (turn.loop-i.i + 1) bytes)) (sym found.rest),
     )
 
 returns : tie.Need-returns invariant-loop decreases-loop
 unfolding after_bytes
 returns c =
-    let walk = c.before.loop in
+    let walk = c.loop-i in
     record {
       inside = walk.invariant.1;
       rest = sym (walk.invariant.2
-          ∙ ap (λ (bs : List ℕ). after_bytes bs (drop walk.next c.before.before.before.before.args.text.now))
-          (rest_none _ _ c.loop-test.false));
+          ∙ ap (λ (bs : List ℕ). after_bytes bs (drop walk.next c.args.text.now))
+          (rest_none _ _ c.loop-i-test.false));
     }
 
 pub past_bytes_spec : {M : Type 1} → statement M

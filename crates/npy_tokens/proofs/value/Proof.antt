@@ -9,45 +9,45 @@ use Rattle.npy_tokens.proofs.Texts.{value_more}
 use Rattle.npy_tokens.proofs.value.Statement.{statement}
 use Rattle.npy_tokens.proofs.value.Tie as tie
 
-abbrev invariant-loop : tie.invariant-loop
+abbrev invariant-loop : tie.invariant-loop-place
 invariant-loop text from end n₀ place₀ n place =
     (from ≤ place) × (place ≤ end) × (n ≡ counted (value_of (part text from place)))
 
-abbrev decreases-loop : tie.decreases-loop
+abbrev decreases-loop : tie.decreases-loop-place
 decreases-loop text from end n₀ place₀ n place = end - place
 
-loop_holds : tie.Need-loop-init invariant-loop decreases-loop
+loop_holds : tie.Need-loop-place-init invariant-loop decreases-loop
 unfolding value_from
-loop_holds c = (omega arith, c.before.requires.ordered, rw (part_none _ _))
+loop_holds c = (omega arith, c.requires.ordered, rw (part_none _ _))
 
-shared_slice_read_with_digit : tie.Need-shared-slice-read-with-digit invariant-loop decreases-loop
+shared_slice_read_with_digit : tie.Need-bounds-text-place invariant-loop decreases-loop
 shared_slice_read_with_digit c =
-    omega (arith, c.before.before.before.before.requires.inside)
+    omega (arith, c.requires.inside)
 
-with_digit_requires : tie.Need-with-digit-requires invariant-loop decreases-loop
+with_digit_requires : tie.Need-with_digit-n-requires invariant-loop decreases-loop
 with_digit_requires c κs =
-    let walk = c.before.before.loop in
-    (omega (arith, walk.invariant.2), c.before.before.before.before.requires.each _ walk.invariant.0 c.before.loop-test.true)
+    let walk = c.loop-place in
+    (omega (arith, walk.invariant.2), c.requires.each _ walk.invariant.0 c.loop-place-test.true)
 
-add_place : tie.Need-overflow-add-place invariant-loop decreases-loop
+add_place : tie.Need-overflow_step-place invariant-loop decreases-loop
 add_place c = omega arith
 
-loop_less : tie.Need-loop-smaller invariant-loop decreases-loop
+loop_less : tie.Need-loop-place-smaller invariant-loop decreases-loop
 loop_less c = omega arith
 
-loop_again : tie.Need-loop-preserved invariant-loop decreases-loop
+loop_again : tie.Need-loop-place-preserved invariant-loop decreases-loop
 loop_again c =
-    let walk = c.before.before.before in
-    let digits = walk.before.before.requires in (
+    let walk = c in
+    let digits = walk.requires in (
       omega arith,
       omega arith,
-      value_more _ _ _ _ _ walk.loop.invariant.0 (omega (arith, digits.inside)) walk.loop.invariant.2 c.with-digit.ensures,
+      value_more _ _ _ _ _ walk.loop-place.invariant.0 (omega (arith, digits.inside)) walk.loop-place.invariant.2 c.with_digit-n.ensures,
     )
 
 returns : tie.Need-returns invariant-loop decreases-loop
 returns c =
-    let walk = c.before.loop in
-    let given = c.before.before.before.args in
+    let walk = c.loop-place in
+    let given = c.args in
     let last : walk.place ≡ given.end = omega arith in
     walk.invariant.2 ∙ ap (λ (p : ℕ). counted (value_of (part given.text.now given.from p))) last
 

@@ -6,31 +6,31 @@ use Rattle.npy_tokens.proofs.Readings.{number_found, no_number}
 use Rattle.npy_tokens.proofs.whole_number.Statement.{statement}
 use Rattle.npy_tokens.proofs.whole_number.Tie as tie
 
-end_of_requires : tie.Need-end-of-requires
+end_of_requires : tie.Need-end_of-from-requires
 end_of_requires c κs = search rules
 
-end_of_requires_2 : tie.Need-end-of-requires-2
+end_of_requires_2 : tie.Need-end_of-end-requires
 end_of_requires_2 c κs = search rules
 
-value_requires : tie.Need-value-requires
-value_requires c κs = digits_found _ _ _ c.end-of2.ensures
+value_requires : tie.Need-value-value-requires
+value_requires c κs = digits_found _ _ _ c.end_of-end.ensures
 
-is_plain_requires : tie.Need-is-plain-requires
+is_plain_requires : tie.Need-is_plain-requires
 is_plain_requires c κs = search rules
 
-returns : tie.Need-returns
+returns : tie.Need-returns-then-is_plain
 returns c =
     let number = c.before.before in
-    let digits = number.before in
-    number_found _ _ _ digits.before.end_of_lem.ensures _ _ digits.end-of2.ensures number.value.ensures
-    (sym c.before.is_plain.ensures ∙ c.if1.true)
+    let digits = number in
+    number_found _ _ _ digits.end_of-from.ensures _ _ digits.end_of-end.ensures number.value-value.ensures
+    (sym c.is_plain.ensures ∙ c.if-is_plain.true)
 
-returns_2 : tie.Need-returns-2
+returns_2 : tie.Need-returns
 returns_2 c =
     let number = c.before.before in
-    let digits = number.before in
-    no_number _ _ _ digits.before.end_of_lem.ensures _ _ digits.end-of2.ensures number.value.ensures
-    (sym c.before.is_plain.ensures ∙ c.if1.false)
+    let digits = number in
+    no_number _ _ _ digits.end_of-from.ensures _ _ digits.end_of-end.ensures number.value-value.ensures
+    (sym c.is_plain.ensures ∙ c.if-is_plain.false)
 
 pub whole_number_spec : {M : Type 1} → statement M
 whole_number_spec =

@@ -8,26 +8,26 @@ use Rattle.replay.proofs.Cuts.{to_end}
 use Rattle.replay.proofs.line_end.Statement.{statement}
 use Rattle.replay.proofs.line_end.Tie as tie
 
-sub_bytes_before : tie.Need-overflow-sub-bytes-before
+sub_bytes_before : tie.Need-slice_bounds-bytes_before-count
 sub_bytes_before c = search rules
 
-part_bytes_before_start : tie.Need-slice-bounds-bytes-before-start
+part_bytes_before_start : tie.Need-slice_bounds-bytes_before-start
 part_bytes_before_start c = search rules
 
-part_bytes_before_end : tie.Need-slice-bounds-bytes-before-end
+part_bytes_before_end : tie.Need-slice_bounds-bytes_before-end
 part_bytes_before_end c = search rules
 
-bytes_before_requires : tie.Need-bytes-before-requires
+bytes_before_requires : tie.Need-bytes_before-requires
 bytes_before_requires c κs = search rules
 
-add_result : tie.Need-overflow-add-result
+add_result : tie.Need-overflow_add-result
 add_result c = search rules
 
 returns : tie.Need-returns
 returns c =
-    let from = c.before.before.before.args.from in
-    let text = c.before.before.before.args.text.now in
-    let found = simp to_end at c.bytes-before.ensures in
+    let from = c.args.from in
+    let text = c.args.text.now in
+    let found = simp to_end at c.bytes_before.ensures in
     record {
       after = omega arith;
       within = omega (arith, found.within, length-drop from text);

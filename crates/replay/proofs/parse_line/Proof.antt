@@ -13,58 +13,58 @@ use Rattle.replay.proofs.parse_line.Statement.{statement}
 use Rattle.replay.proofs.parse_line.Tie as tie
 
 -- ---- from place to place
-abbrev start : tie.Else1 → tie.Start
+abbrev start : tie.Else-line-eq0 → tie.Start
 start c = c.before.before.before
 
 -- where the line was found to be no comment, from where it was found to begin with a letter
-abbrev uncommented : tie.Else3 → tie.Else2
+abbrev uncommented : tie.Else-not-is_letter → tie.Else-tag-eq35
 uncommented c = c.before.before
 
-abbrev lettered : tie.After-tagged → tie.Else3
+abbrev lettered : tie.After-tagged → tie.Else-not-is_letter
 lettered c = c.before.before.before
 
 -- ---- what is known there
-some : (c : tie.Else1) → 0 < length (start c).args.line.now
-some c = let h = c.if1.false in omega arith
+some : (c : tie.Else-line-eq0) → 0 < length (start c).args.line.now
+some c = let h = c.if-line-eq0.false in omega arith
 
-letter : (c : tie.Else3) → letter_of (get_or (start (uncommented c).before.before).args.line.now 0 0) ≡ true
-letter c = sym c.before.is-letter.ensures ∙ not-false _ c.if3.false
+letter : (c : tie.Else-not-is_letter) → letter_of (get_or (start (uncommented c).before.before).args.line.now 0 0) ≡ true
+letter c = sym c.is_letter.ensures ∙ not-false _ c.if-not-is_letter.false-raw
 
 -- ---- the needs
-returns : tie.Need-returns
-returns c = skipped _ _ _ (line_none _ _ c.if1.true)
+returns : tie.Need-returns-then-line-eq0
+returns c = skipped _ _ _ (line_none _ _ c.if-line-eq0.true)
 
-shared_slice_read_tag : tie.Need-shared-slice-read-tag
+shared_slice_read_tag : tie.Need-bounds-line-0
 shared_slice_read_tag c = search rules
 
-returns_2 : tie.Need-returns-2
-returns_2 c = skipped _ _ _ (line_comment _ _ (some c.before.before) c.if2.true)
+returns_2 : tie.Need-returns-then-tag-eq35
+returns_2 c = skipped _ _ _ (line_comment _ _ (some c.before.before) c.if-tag-eq35.true)
 
-is_letter_requires : tie.Need-is-letter-requires
+is_letter_requires : tie.Need-is_letter-requires
 is_letter_requires c κs = search rules
 
-returns_3 : tie.Need-returns-3
+returns_3 : tie.Need-returns-then-not-is_letter
 returns_3 c =
     let other = c.before.before in
-    let none = sym c.before.is-letter.ensures ∙ not-true _ c.if3.true in
-    malformed _ _ _ (line_other _ _ other.if2.false none (some other.before.before))
+    let none = sym c.is_letter.ensures ∙ not-true _ c.if-not-is_letter.true-raw in
+    malformed _ _ _ (line_other _ _ other.if-tag-eq35.false none (some other.before.before))
 
-sub_tagged : tie.Need-overflow-sub-tagged
+sub_tagged : tie.Need-slice_bounds-tagged-count
 sub_tagged c = search rules
 
-part_tagged_start : tie.Need-slice-bounds-tagged-start
+part_tagged_start : tie.Need-slice_bounds-tagged-start
 part_tagged_start c = search rules
 
-part_tagged_end : tie.Need-slice-bounds-tagged-end
+part_tagged_end : tie.Need-slice_bounds-tagged-end
 part_tagged_end c = search rules
 
 tagged_requires : tie.Need-tagged-requires
 tagged_requires c κs = search rules
 
-same_length : tie.Need-same-length
+same_length : tie.Need-shape_of-words
 same_length c = search rules
 
-returns_4 : tie.Need-returns-4
+returns_4 : tie.Need-returns
 returns_4 c =
     let words = c.before.before in
     let tag = lettered words in
@@ -72,7 +72,7 @@ returns_4 c =
     let read = simp to_end at words.tagged.ensures in
     record {
       within = read.within;
-      answer = read.answer ∙ line_tagged _ _ other.if2.left (letter tag) (some other.before.before);
+      answer = read.answer ∙ line_tagged _ _ other.if-tag-eq35.false (letter tag) (some other.before.before);
       words = read.words;
     }
 

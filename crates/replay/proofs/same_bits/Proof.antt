@@ -7,17 +7,17 @@ use native.Mathlib.Omega.{arith}
 use Rattle.replay.proofs.same_bits.Statement.{statement}
 use Rattle.replay.proofs.same_bits.Tie as tie
 
-returns : tie.Need-returns
+returns : tie.Need-returns-then-x
 unfolding same_bits to_bits
-returns c = rw (differs _ c.if1.true)
+returns c = rw (differs _ c.if-x.true)
 
-float_to_bits_result : tie.Need-float-to-bits-result
-float_to_bits_result c = equals _ c.if1.false
+float_to_bits_result : tie.Need-float_to_bits-result
+float_to_bits_result c = equals _ c.if-x.false
 
-cast_result : tie.Need-overflow-cast-result
-cast_result c = omega (arith, pattern_room c.before.args.x c.before.well-formed.0.1)
+cast_result : tie.Need-overflow_cast-result
+cast_result c = omega (arith, pattern_room c.args.x c.well_formed.0.1)
 
-returns_2 : tie.Need-returns-2
+returns_2 : tie.Need-returns
 unfolding same_bits
 returns_2 c = refl
 

@@ -3,17 +3,17 @@ use borrow.Author.Rules.{rules}
 use Rattle.spline.proofs.beyond.Statement.{statement}
 use Rattle.spline.proofs.beyond.Tie as tie
 
-is_finite_requires : tie.Need-is-finite-requires
+is_finite_requires : tie.Need-is_finite-requires
 is_finite_requires c κs = search rules
 
-returns : tie.Need-returns
-returns c = let real = c.before in rw (← real.before.is_finite.ensures, real.if1.true, c.if2.true)
+returns : tie.Need-returns-then-x-first
+returns c = let real = c.before in rw (← real.is_finite.ensures, real.if-is_finite.true, c.if-x-first.true)
 
-returns_2 : tie.Need-returns-2
-returns_2 c = let real = c.before in rw (← real.before.is_finite.ensures, real.if1.true, c.if2.false)
+returns_2 : tie.Need-returns-then-is_finite
+returns_2 c = let real = c.before in rw (← real.is_finite.ensures, real.if-is_finite.true, c.if-x-first.false)
 
-returns_3 : tie.Need-returns-3
-returns_3 c = rw (← c.before.is_finite.ensures, c.if1.false)
+returns_3 : tie.Need-returns
+returns_3 c = rw (← c.is_finite.ensures, c.if-is_finite.false)
 
 pub beyond_spec : {M : Type 1} → statement M
 beyond_spec = tie.close (tie.spec is_finite_requires returns returns_2 returns_3)

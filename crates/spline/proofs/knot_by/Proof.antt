@@ -3,10 +3,10 @@ use borrow.Author.Rules.{rules}
 use Rattle.spline.proofs.knot_by.Statement.{statement}
 use Rattle.spline.proofs.knot_by.Tie as tie
 
-cast_widths_above : tie.Need-overflow-cast-widths-above
+cast_widths_above : tie.Need-overflow_cast-i
 cast_widths_above c = search rules
 
-widths_above_requires : tie.Need-widths-above-requires
+widths_above_requires : tie.Need-widths_above-requires
 widths_above_requires c κs = search rules
 
 returns : tie.Need-returns

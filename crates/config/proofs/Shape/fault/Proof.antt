@@ -46,69 +46,68 @@ module _ (s : Shape) (count : ℕ) (g : Grid) (shape : ltb count 2 || s.zero ≡
   past4 e h = past2 ∙ rw (e, moves e, lt-ltb _ _ h)
 
 -- ---- from place to place
-abbrev tested3 : tie.Else4 → tie.Else3
+abbrev tested3 : tie.Else-grid-ge-STUCK_INTERVALS → tie.Else-not-some_grid
 tested3 c = c.before.before
 
-abbrev tested2 : tie.Else3 → tie.Else2
+abbrev tested2 : tie.Else-not-some_grid → tie.Else-self
 tested2 c = c.before
 
-abbrev called : tie.Else2 → tie.After-intervals-sound
+abbrev called : tie.Else-self → tie.After-intervals_sound-some_grid
 called c = c.before.before.before
 
 -- ---- what is known there
-intervals_sound_lem : (c : tie.Else3) → intervals_sound (called (tested2 c)).before.args.grid.intervals ≡ true
+intervals_sound_lem : (c : tie.Else-not-some_grid) → intervals_sound (called (tested2 c)).before.args.grid.intervals ≡ true
 intervals_sound_lem c =
-    let call = (called (tested2 c)).intervals-sound in sym call.ensures ∙ not-false call.result c.if3.false
+    let call = (called (tested2 c)).intervals_sound-some_grid in sym call.ensures ∙ not-false call.result c.if-not-some_grid.false-raw
 
 -- ---- the needs
-intervals_sound_requires : tie.Need-intervals-sound-requires
+intervals_sound_requires : tie.Need-intervals_sound-some_grid-requires
 intervals_sound_requires c κs = search rules
 
-returns : tie.Need-returns
-returns c = stops1 _ _ _ c.if1.true
+returns : tie.Need-returns-then-count-self
+returns c = stops1 _ _ _ c.if-count-self.true
 
-returns_2 : tie.Need-returns-2
+returns_2 : tie.Need-returns-then-self
 unfolding shape_fault
-returns_2 c = rw (c.before.if1.false, c.if2.true)
+returns_2 c = rw (c.if-count-self.false, c.if-self.true)
 
-returns_3 : tie.Need-returns-3
+returns_3 : tie.Need-returns-then-not-some_grid
 returns_3 c =
-    let call = (called c.before).intervals-sound in
-    stops3 _ _ _ c.before.before.if1.false c.before.if2.false
-    (sym call.ensures ∙ not-true call.result c.if3.true)
+    let call = (called c.before).intervals_sound-some_grid in
+    stops3 _ _ _ c.if-count-self.false c.if-self.false
+    (sym call.ensures ∙ not-true call.result c.if-not-some_grid.true-raw)
 
-returns_4 : tie.Need-returns-4
+returns_4 : tie.Need-returns-then-grid-ge-STUCK_INTERVALS
 returns_4 c =
     let at3 = c.before.before in
     let at2 = tested2 at3 in
-    stops4 _ _ _ at2.before.if1.left at2.if2.left (intervals_sound_lem at3) c.if4.true
+    stops4 _ _ _ at2.if-count-self.false at2.if-self.false (intervals_sound_lem at3) c.if-grid-ge-STUCK_INTERVALS.true
 
-enum_known_total : tie.Need-enum-known-total
+enum_known_total : tie.Need-enum_known-total
 enum_known_total c = search rules
 
-enum_known_total_2 : tie.Need-enum-known-total-2
+enum_known_total_2 : tie.Need-enum_known-total-in-Parameters-1
 enum_known_total_2 c = search rules
 
-limits_fault_requires : tie.Need-limits-fault-requires
+limits_fault_requires : tie.Need-limits_fault-requires
 limits_fault_requires c κs = search rules
 
 -- past 4 the total decides
-left_at5 : (c : tie.Else4) (total : Counted)
+left_at5 : (c : tie.Else-grid-ge-STUCK_INTERVALS) (total : Counted)
     → let a = (called (tested2 (tested3 c))).before.args in
     a.self.total ≡ total → counted_fault total a.grid ≡ shape_fault a.self a.count a.grid
 left_at5 c total e =
     let at2 = tested2 (tested3 c) in
-    let g = (called at2).before.args.grid in
-    sym (past4 _ _ _ at2.before.if1.left at2.if2.left (intervals_sound_lem (tested3 c)) c.if4.false
+    let g = (called at2).args.grid in
+    sym (past4 _ _ _ at2.if-count-self.false at2.if-self.false (intervals_sound_lem (tested3 c)) c.if-grid-ge-STUCK_INTERVALS.false
     ∙ ap (λ (t : Counted). counted_fault t g) e)
 
-returns_5 : tie.Need-returns-5
-returns_5 c = left_at5 c.before.before.before _ c.before.total.given.1
+returns_5 : tie.Need-returns-in-Refused
+returns_5 c = left_at5 c.before _ c.in-Refused.is
 
-returns_6 : tie.Need-returns-6
+returns_6 : tie.Need-returns-in-Parameters
 returns_6 c =
-    let counted = c.before.before in
-    c.limits-fault.ensures ∙ left_at5 counted.before.before _ counted.total2.given.1
+    c.limits_fault.ensures ∙ left_at5 c.before.before _ c.in-Parameters.is
 
 pub fault_spec : {M : Type 1} → statement M
 fault_spec =

@@ -4,22 +4,22 @@ use borrow.Author.Rules.{rules}
 use Rattle.config.proofs.Shape.take.Statement.{statement}
 use Rattle.config.proofs.Shape.take.Tie as tie
 
-times_requires : tie.Need-times-requires
+times_requires : tie.Need-times-edges-requires
 times_requires c κs = search rules
 
-layer_size_requires : tie.Need-layer-size-requires
+layer_size_requires : tie.Need-layer_size-layer-requires
 layer_size_requires c κs = search rules
 
-is_too_large_requires : tie.Need-is-too-large-requires
+is_too_large_requires : tie.Need-is_too_large-requires
 is_too_large_requires c κs = search rules
 
-add_layer_requires : tie.Need-add-layer-requires
+add_layer_requires : tie.Need-add_layer-requires
 add_layer_requires c κs = search rules
 
 larger_requires : tie.Need-larger-requires
 larger_requires c κs = search rules
 
-plus_capped_requires : tie.Need-plus-capped-requires
+plus_capped_requires : tie.Need-plus_capped-requires
 plus_capped_requires c κs = search rules
 
 returns : tie.Need-returns

@@ -4,7 +4,7 @@ use borrow.Author.Rules.{rules}
 use Rattle.config.proofs.Shape.verdict.Statement.{statement}
 use Rattle.config.proofs.Shape.verdict.Tie as tie
 
-parameters_counted_requires : tie.Need-parameters-counted-requires
+parameters_counted_requires : tie.Need-parameters_counted-requires
 parameters_counted_requires c κs = search rules
 
 fault_requires : tie.Need-fault-requires
@@ -15,7 +15,7 @@ answer_requires c κs = search rules
 
 returns : tie.Need-returns
 unfolding verdict_of
-returns c = rw (c.answer.ensures, c.before.fault.ensures, c.before.before.parameters-counted.ensures)
+returns c = rw (c.answer.ensures, c.fault.ensures, c.parameters_counted.ensures)
 
 pub verdict_spec : {M : Type 1} → statement M
 verdict_spec =

@@ -12,104 +12,104 @@ use Rattle.fast_forward.proofs.Edges.{Added, added_none, added_more, added_all, 
 use Rattle.fast_forward.proofs.inputs.add_plain.Statement.{statement}
 use Rattle.fast_forward.proofs.inputs.add_plain.Tie as tie
 
-abbrev invariant-loop : tie.invariant-loop
+abbrev invariant-loop : tie.invariant-loop-o
 invariant-loop mesh table params w j x outputs₀ n stride row first silu o₀ outputs o =
     Added (λ k. edge_with (basis_of mesh.grid) (drop first (drop (k * row) params)) x silu) outputs₀ n outputs o
 
-abbrev decreases-loop : tie.decreases-loop
+abbrev decreases-loop : tie.decreases-loop-o
 decreases-loop mesh table params w j x outputs₀ n stride row first silu o₀ outputs o = n - o
 
 -- ---- from place to place
-abbrev entry : tie.After-struct-known invariant-loop decreases-loop → tie.Start invariant-loop decreases-loop
+abbrev entry : tie.After-struct_known-1 invariant-loop decreases-loop → tie.Start invariant-loop decreases-loop
 entry c = c.before.before.before
 
-abbrev start : tie.At-loop invariant-loop decreases-loop → tie.Start invariant-loop decreases-loop
+abbrev start : tie.At-loop-o invariant-loop decreases-loop → tie.Start invariant-loop decreases-loop
 start c = entry c.before.before
 
-abbrev turned : tie.After-edge invariant-loop decreases-loop → tie.In-loop invariant-loop decreases-loop
-turned c = c.before.before.before
+abbrev turned : tie.After-edge invariant-loop decreases-loop → tie.In-loop-o invariant-loop decreases-loop
+turned c = c.before.before.before.before
 
 -- ---- what is known in a turn
-known : (c : tie.In-loop invariant-loop decreases-loop)
+known : (c : tie.In-loop-o invariant-loop decreases-loop)
     → let a = (start c.before).args in
     let s = a.mesh.grid.intervals + 5 in
-    let o = c.before.loop.o in
-    (o * (a.w * s) + a.j * s + s ≤ length a.params.now) × (o < length c.before.loop.outputs)
+    let o = c.loop-o.o in
+    (o * (a.w * s) + a.j * s + s ≤ length a.params.now) × (o < length c.loop-o.outputs)
 known c =
     let s = start c.before in
-    turn s.pre.2 s.args.outputs.now c.before.loop.outputs _ c.loop-test.true s.pre.3
-    c.before.loop.invariant.size
+    turn s.requires.2 s.args.outputs.now c.loop-o.outputs _ c.loop-o-test.true s.requires.3
+    c.loop-o.invariant.size
 
 -- ---- the needs
-add_stride : tie.Need-overflow-add-stride invariant-loop decreases-loop
+add_stride : tie.Need-overflow_add-stride invariant-loop decreases-loop
 add_stride c = omega (arith, (entry c).requires.0.intervals)
 
-mul_row : tie.Need-overflow-mul-row invariant-loop decreases-loop
+mul_row : tie.Need-overflow_mul-row invariant-loop decreases-loop
 mul_row c = omega (arith, first_there (entry c).requires.2)
 
-mul_first : tie.Need-overflow-mul-first invariant-loop decreases-loop
+mul_first : tie.Need-overflow_mul-first invariant-loop decreases-loop
 mul_first c = omega (arith, first_there (entry c).requires.2)
 
-silu_by_requires : tie.Need-silu-by-requires invariant-loop decreases-loop
+silu_by_requires : tie.Need-silu_by-silu-requires invariant-loop decreases-loop
 silu_by_requires c κs = (entry c).requires.1
 
-loop_holds : tie.Need-loop-init invariant-loop decreases-loop
+loop_holds : tie.Need-loop-o-init invariant-loop decreases-loop
 loop_holds c = added_none
 
-mul_at : tie.Need-overflow-mul-at invariant-loop decreases-loop
+mul_at : tie.Need-overflow_mul-at invariant-loop decreases-loop
 mul_at c = omega (arith, known c)
 
-add_at : tie.Need-overflow-add-at invariant-loop decreases-loop
+add_at : tie.Need-overflow_add-at invariant-loop decreases-loop
 add_at c = omega (arith, known c)
 
-mul_outputs : tie.Need-overflow-mul-outputs invariant-loop decreases-loop
+mul_outputs : tie.Need-offset_bounds-outputs-o invariant-loop decreases-loop
 mul_outputs c = omega (arith, known c)
 
-slice_read_outputs : tie.Need-slice-read-outputs invariant-loop decreases-loop
+slice_read_outputs : tie.Need-bounds-outputs-o invariant-loop decreases-loop
 slice_read_outputs c = omega (arith, known c.before)
 
-mul_edge : tie.Need-overflow-mul-edge invariant-loop decreases-loop
-mul_edge c = omega (arith, known c.before)
+mul_edge : tie.Need-offset_bounds-params-at invariant-loop decreases-loop
+mul_edge c = omega (arith, known c.before.before)
 
-sub_edge : tie.Need-overflow-sub-edge invariant-loop decreases-loop
-sub_edge c = omega (arith, known c.before)
+sub_edge : tie.Need-slice_bounds-edge-count invariant-loop decreases-loop
+sub_edge c = omega (arith, known c.before.before)
 
-part_edge_start : tie.Need-slice-bounds-edge-start invariant-loop decreases-loop
-part_edge_start c = omega (arith, known c.before)
+part_edge_start : tie.Need-slice_bounds-edge-start invariant-loop decreases-loop
+part_edge_start c = omega (arith, known c.before.before)
 
-part_edge_end : tie.Need-slice-bounds-edge-end invariant-loop decreases-loop
-part_edge_end c = omega (arith, known c.before)
+part_edge_end : tie.Need-slice_bounds-edge-end invariant-loop decreases-loop
+part_edge_end c = omega (arith, known c.before.before)
 
 edge_requires : tie.Need-edge-requires invariant-loop decreases-loop
 edge_requires c κs =
     let t = c.before.before in
-    ((start t.before).pre.0.intervals, rw rest_length (omega (arith, known t)))
+    ((start t.before.before).requires.0.intervals, rw rest_length (omega (arith, known t.before)))
 
-mul_outputs_2 : tie.Need-overflow-mul-outputs-2 invariant-loop decreases-loop
+mul_outputs_2 : tie.Need-offset_bounds-outputs-o-in-loop-o invariant-loop decreases-loop
 mul_outputs_2 c = omega (arith, known (turned c))
 
-slice_write_outputs : tie.Need-slice-write-outputs invariant-loop decreases-loop
+slice_write_outputs : tie.Need-bounds-outputs-o-in-loop-o invariant-loop decreases-loop
 slice_write_outputs c = omega (arith, known (turned c))
 
-add_o : tie.Need-overflow-add-o invariant-loop decreases-loop
+add_o : tie.Need-overflow_step-o invariant-loop decreases-loop
 add_o c = omega arith
 
-loop_less : tie.Need-loop-smaller invariant-loop decreases-loop
+loop_less : tie.Need-loop-o-smaller invariant-loop decreases-loop
 loop_less c = omega arith
 
-loop_again : tie.Need-loop-preserved invariant-loop decreases-loop
+loop_again : tie.Need-loop-o-preserved invariant-loop decreases-loop
 loop_again c =
     let t = turned c in
-    added_more _ t.before.loop.inv t.loop-test.taken (start t.before).pre.3 (c.edge.ensures ∙ rw cut)
+    added_more _ t.loop-o.invariant t.loop-o-test.true (start t.before).requires.3 (c.edge.ensures ∙ rw cut)
 
-same_length : tie.Need-same-length invariant-loop decreases-loop
-same_length c = c.before.loop.invariant.size
+same_length : tie.Need-shape_of-outputs invariant-loop decreases-loop
+same_length c = c.loop-o.invariant.size
 
 returns : tie.Need-returns invariant-loop decreases-loop
 unfolding added_input edge_of
 returns c =
-    let silu = c.before.before.silu-by.ensures in
-    rw silu at (added_all c.before.loop.invariant (omega arith))
+    let silu = c.silu_by-silu.ensures in
+    rw silu at (added_all c.loop-o.invariant (omega arith))
 
 pub add_plain_spec : {M : Type 1} → statement M
 add_plain_spec =

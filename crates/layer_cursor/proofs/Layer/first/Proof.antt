@@ -6,23 +6,23 @@ use Rattle.layer_cursor.proofs.Cursors.{widths_none}
 use Rattle.layer_cursor.proofs.Layer.first.Statement.{statement}
 use Rattle.layer_cursor.proofs.Layer.first.Tie as tie
 
-width_requires : tie.Need-width-requires
+width_requires : tie.Need-width-inputs-requires
 width_requires c κs = search rules
 
-width_requires_2 : tie.Need-width-requires-2
+width_requires_2 : tie.Need-width-outputs-requires
 width_requires_2 c κs = search rules
 
-mesh_of_requires : tie.Need-mesh-of-requires
+mesh_of_requires : tie.Need-mesh_of-mesh-requires
 mesh_of_requires c κs = search rules
 
 returns : tie.Need-returns
 returns c = record {
   index = refl;
-  mesh = c.mesh-of.ensures;
+  mesh = c.mesh_of-mesh.ensures;
   part = params_none _ _;
   nodes = widths_none _;
-  inputs = c.before.before.width.ensures;
-  outputs = c.before.width2.ensures;
+  inputs = c.width-inputs.ensures;
+  outputs = c.width-outputs.ensures;
 }
 
 pub first_spec : {M : Type 1} → statement M

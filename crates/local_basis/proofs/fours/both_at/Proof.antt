@@ -8,36 +8,36 @@ use Rattle.local_basis.proofs.fours.both_at.Statement.{statement}
 use Rattle.local_basis.proofs.fours.both_at.Tie as tie
 
 -- ---- from place to place: only these lines know how many places lie between
-abbrev searched : tie.After-squares-of → tie.After-interval
+abbrev searched : tie.After-squares_of-squares → tie.After-interval-at
 searched c = c.before.before.before
 
-abbrev squared : tie.After-rises → tie.After-squares-of
+abbrev squared : tie.After-rises → tie.After-squares_of-squares
 squared c = c.before.before.before
 
 -- ---- the needs
-interval_requires : tie.Need-interval-requires
+interval_requires : tie.Need-interval-at-requires
 interval_requires c κs = c.requires
 
-add_if1 : tie.Need-overflow-add-if1
-add_if1 c = omega (arith, c.before.before.requires.0.intervals)
+add_if1 : tie.Need-overflow_add-mesh
+add_if1 c = omega (arith, c.requires.0.intervals)
 
-no_eight_requires : tie.Need-no-eight-requires
+no_eight_requires : tie.Need-no_eight-requires
 no_eight_requires c κs = tt
 
-returns : tie.Need-returns
+returns : tie.Need-returns-then-mesh-at
 returns c =
-    let none = c.no-eight.ensures in
-    let at = c.before.before.before in
-    let outside = c.before.if1.true in
+    let none = c.no_eight.ensures in
+    let at = c in
+    let outside = c.if-mesh-at.true in
     record {
       start = rw (none.0, none.1);
-      values = rw none.0 (values_none at.before.requires at.interval.ensures outside);
-      slopes = rw none.1 (slopes_none at.before.requires at.interval.ensures outside);
+      values = rw none.0 (values_none at.requires at.interval-at.ensures outside);
+      slopes = rw none.1 (slopes_none at.requires at.interval-at.ensures outside);
     }
 
-squares_of_requires : tie.Need-squares-of-requires
+squares_of_requires : tie.Need-squares_of-squares-requires
 squares_of_requires c κs =
-    let asked = c.before.before.before.requires.0 in (omega (arith, c.if1.false, asked.intervals), asked)
+    let asked = c.requires.0 in (omega (arith, c.if-mesh-at.false, asked.intervals), asked)
 
 cubes_requires : tie.Need-cubes-requires
 cubes_requires c κs = tt
@@ -46,7 +46,7 @@ placed_requires : tie.Need-placed-requires
 placed_requires c κs =
     let row = c.before in
     let at = searched row in
-    may_place at.before.pre at.interval.ensures row.before.if1.false (cubes_start _ _ _ _ c.cubes.ensures)
+    may_place at.before.requires at.interval-at.ensures row.if-mesh-at.false (cubes_start _ _ _ _ c.cubes.ensures)
 
 rises_requires : tie.Need-rises-requires
 rises_requires c κs = tt
@@ -55,21 +55,21 @@ placed_requires_2 : tie.Need-placed-requires-2
 placed_requires_2 c κs =
     let row = squared c in
     let at = searched row in
-    may_place at.before.pre at.interval.ensures row.before.if1.left (rises_start _ _ _ c.rises.ensures)
+    may_place at.before.requires at.interval-at.ensures row.if-mesh-at.false (rises_start _ _ _ c.rises.ensures)
 
-returns_2 : tie.Need-returns-2
+returns_2 : tie.Need-returns
 returns_2 c =
     let risen = c.before in
-    let cubed = risen.before.before in
+    let cubed = risen in
     let row = squared risen in
     let at = searched row in
     let begins = rises_start _ _ _ risen.rises.ensures ∙ sym (cubes_start _ _ _ _ cubed.cubes.ensures) in
     record {
-      start = rw (c.placed2.ensures, risen.before.placed.ensures) (placed_together _ _ _ _ begins);
-      values = rw (risen.before.placed.ensures, cubed.cubes.ensures)
-          (values_some at.before.pre at.interval.ensures row.before.if1.left row.squares-of.ensures);
-      slopes = rw (c.placed2.ensures, risen.rises.ensures)
-          (slopes_some at.before.pre at.interval.ensures row.before.if1.left row.squares-of.ensures);
+      start = rw (c.placed-2.ensures, risen.placed.ensures) (placed_together _ _ _ _ begins);
+      values = rw (risen.placed.ensures, cubed.cubes.ensures)
+          (values_some at.before.requires at.interval-at.ensures row.if-mesh-at.false row.squares_of-squares.ensures);
+      slopes = rw (c.placed-2.ensures, risen.rises.ensures)
+          (slopes_some at.before.requires at.interval-at.ensures row.if-mesh-at.false row.squares_of-squares.ensures);
     }
 
 pub both_at_spec : {M : Type 1} → statement M

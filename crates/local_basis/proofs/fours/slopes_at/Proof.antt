@@ -5,24 +5,24 @@ use Rattle.local_basis.proofs.Standing.{may_place, slopes_none, slopes_some}
 use Rattle.local_basis.proofs.fours.slopes_at.Statement.{statement}
 use Rattle.local_basis.proofs.fours.slopes_at.Tie as tie
 
-abbrev searched : tie.After-squares-of → tie.After-interval
+abbrev searched : tie.After-squares_of → tie.After-interval-at
 searched c = c.before.before.before
 
-interval_requires : tie.Need-interval-requires
+interval_requires : tie.Need-interval-at-requires
 interval_requires c κs = search rules
 
-add_if1 : tie.Need-overflow-add-if1
+add_if1 : tie.Need-overflow_add-mesh
 add_if1 c = search rules
 
-no_four_requires : tie.Need-no-four-requires
+no_four_requires : tie.Need-no_four-requires
 no_four_requires c κs = search rules
 
-returns : tie.Need-returns
+returns : tie.Need-returns-then-mesh-at
 returns c =
-    let at = c.before.before.before in
-    rw c.no-four.ensures (slopes_none at.before.requires at.interval.ensures c.before.if1.true)
+    let at = c in
+    rw c.no_four.ensures (slopes_none at.requires at.interval-at.ensures c.if-mesh-at.true)
 
-squares_of_requires : tie.Need-squares-of-requires
+squares_of_requires : tie.Need-squares_of-requires
 squares_of_requires c κs = search rules
 
 rises_requires : tie.Need-rises-requires
@@ -32,14 +32,14 @@ placed_requires : tie.Need-placed-requires
 placed_requires c κs =
     let row = c.before in
     let at = searched row in
-    may_place at.before.pre at.interval.ensures row.before.if1.false (rises_start _ _ _ c.rises.ensures)
+    may_place at.before.requires at.interval-at.ensures row.if-mesh-at.false (rises_start _ _ _ c.rises.ensures)
 
-returns_2 : tie.Need-returns-2
+returns_2 : tie.Need-returns
 returns_2 c =
     let row = c.before.before in
     let at = searched row in
-    rw (c.placed.ensures, c.before.rises.ensures)
-    (slopes_some at.before.pre at.interval.ensures row.before.if1.false row.squares-of.ensures)
+    rw (c.placed.ensures, c.rises.ensures)
+    (slopes_some at.before.requires at.interval-at.ensures row.if-mesh-at.false row.squares_of.ensures)
 
 pub slopes_at_spec : {M : Type 1} → statement M
 slopes_at_spec =

@@ -6,24 +6,24 @@ use Rattle.local_basis.proofs.Standing.{may_place, values_none, values_some}
 use Rattle.local_basis.proofs.fours.values_by.Statement.{statement}
 use Rattle.local_basis.proofs.fours.values_by.Tie as tie
 
-abbrev searched : tie.After-squares-of → tie.After-interval
+abbrev searched : tie.After-squares_of → tie.After-interval-at
 searched c = c.before.before
 
-interval_requires : tie.Need-interval-requires
+interval_requires : tie.Need-interval-at-requires
 interval_requires c κs = (c.requires, refl)
 
-add_if1 : tie.Need-overflow-add-if1
+add_if1 : tie.Need-overflow_add-intervals
 add_if1 c = search rules
 
-no_four_requires : tie.Need-no-four-requires
+no_four_requires : tie.Need-no_four-requires
 no_four_requires c κs = search rules
 
-returns : tie.Need-returns
+returns : tie.Need-returns-then-intervals-at
 returns c =
-    let at = c.before.before in
-    rw c.no-four.ensures (values_none (at.before.requires, refl) at.interval.ensures c.before.if1.true)
+    let at = c in
+    rw c.no_four.ensures (values_none (at.requires, refl) at.interval-at.ensures c.if-intervals-at.true)
 
-squares_of_requires : tie.Need-squares-of-requires
+squares_of_requires : tie.Need-squares_of-requires
 squares_of_requires c κs = search rules
 
 cubes_requires : tie.Need-cubes-requires
@@ -33,14 +33,14 @@ placed_requires : tie.Need-placed-requires
 placed_requires c κs =
     let row = c.before in
     let at = searched row in
-    may_place (at.before.pre, refl) at.interval.ensures row.before.if1.false (cubes_start _ _ _ _ c.cubes.ensures)
+    may_place (at.before.requires, refl) at.interval-at.ensures row.if-intervals-at.false (cubes_start _ _ _ _ c.cubes.ensures)
 
-returns_2 : tie.Need-returns-2
+returns_2 : tie.Need-returns
 returns_2 c =
     let row = c.before.before in
     let at = searched row in
-    rw (c.placed.ensures, c.before.cubes.ensures)
-    (values_some (at.before.pre, refl) at.interval.ensures row.before.if1.false row.squares-of.ensures)
+    rw (c.placed.ensures, c.cubes.ensures)
+    (values_some (at.before.requires, refl) at.interval-at.ensures row.if-intervals-at.false row.squares_of.ensures)
 
 pub values_by_spec : {M : Type 1} → statement M
 values_by_spec =

@@ -5,36 +5,36 @@ use borrow.Author.Rules.{rules}
 use Rattle.local_basis.proofs.place.down.Statement.{statement}
 use Rattle.local_basis.proofs.place.down.Tie as tie
 
-down_one_requires : tie.Need-down-one-requires
+down_one_requires : tie.Need-down_one-one-requires
 down_one_requires c κs = search rules
 
-returns : tie.Need-returns
+returns : tie.Need-returns-then-n-eq1
 returns c =
-    let start = c.before.before in
-    down_1 start.args.four _ _ c.if1.true c.before.down-one.ensures
+    let start = c in
+    down_1 start.args.four _ _ c.if-n-eq1.true c.down_one-one.ensures
 
-down_one_requires_2 : tie.Need-down-one-requires-2
+down_one_requires_2 : tie.Need-down_one-two-requires
 down_one_requires_2 c κs = search rules
 
-returns_2 : tie.Need-returns-2
+returns_2 : tie.Need-returns-then-n-eq2
 returns_2 c =
-    let at-down-one = c.before.before.before in
-    down_2 at-down-one.before.args.four _ _ _ c.if2.true at-down-one.down-one.ensures
-    c.before.down-one2.ensures
+    let at-down-one = c in
+    down_2 at-down-one.args.four _ _ _ c.if-n-eq2.true at-down-one.down_one-one.ensures
+    c.down_one-two.ensures
 
-down_one_requires_3 : tie.Need-down-one-requires-3
+down_one_requires_3 : tie.Need-down_one-requires
 down_one_requires_3 c κs = search rules
 
-returns_3 : tie.Need-returns-3
+returns_3 : tie.Need-returns
 returns_3 c =
     let at-if2 = c.before in
     let at-down-one2 = at-if2.before in
     let at-if1 = at-down-one2.before in
     let at-down-one = at-if1.before in
-    let start = at-down-one.before in
-    down_3 start.args.four _ _ _ _ (omega (arith, start.requires, at-if1.if1.false, at-if2.if2.false))
-    at-down-one.down-one.ensures
-    at-down-one2.down-one2.ensures c.down-one3.ensures
+    let start = at-down-one in
+    down_3 start.args.four _ _ _ _ (omega (arith, start.requires, at-if1.if-n-eq1.false, at-if2.if-n-eq2.false))
+    at-down-one.down_one-one.ensures
+    at-down-one2.down_one-two.ensures c.down_one.ensures
 
 pub down_spec : {M : Type 1} → statement M
 down_spec =

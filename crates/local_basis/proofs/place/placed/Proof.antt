@@ -5,38 +5,38 @@ use borrow.Author.Rules.{rules}
 use Rattle.local_basis.proofs.place.placed.Statement.{statement}
 use Rattle.local_basis.proofs.place.placed.Tie as tie
 
-sub_down : tie.Need-overflow-sub-down
+sub_down : tie.Need-overflow_sub-at
 sub_down c = search rules
 
 down_requires : tie.Need-down-requires
 down_requires c κs = search rules
 
-returns : tie.Need-returns
+returns : tie.Need-returns-then-at-lt3
 returns c =
-    let start = c.before.before in
-    placed_down start.args.intervals start.args.at start.args.four _ (omega (arith, c.before.if1.true))
+    let start = c in
+    placed_down start.args.intervals start.args.at start.args.four _ (omega (arith, c.if-at-lt3.true))
     c.down.ensures
 
-add_last : tie.Need-overflow-add-last
+add_last : tie.Need-overflow_add-last
 add_last c = search rules
 
-sub_up : tie.Need-overflow-sub-up
+sub_up : tie.Need-overflow_sub-at-then-last-at
 sub_up c = search rules
 
 up_requires : tie.Need-up-requires
 up_requires c κs = search rules
 
-returns_2 : tie.Need-returns-2
+returns_2 : tie.Need-returns-then-last-at
 returns_2 c =
-    let start = c.before.before.before in
+    let start = c in
     placed_up start.args.intervals start.args.at start.args.four _
-    (omega (arith, c.before.before.if1.false)) c.up.ensures
+    (omega (arith, c.if-at-lt3.false)) c.up.ensures
 
-returns_3 : tie.Need-returns-3
+returns_3 : tie.Need-returns
 returns_3 c =
-    let start = c.before.before in
-    placed_there start.args.intervals start.args.at start.args.four (omega (arith, c.before.if1.false))
-    (omega (arith, c.if2.false))
+    let start = c in
+    placed_there start.args.intervals start.args.at start.args.four (omega (arith, c.if-at-lt3.false))
+    (omega (arith, c.if-last-at.false))
 
 pub placed_spec : {M : Type 1} → statement M
 placed_spec =

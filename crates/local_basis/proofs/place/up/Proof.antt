@@ -5,51 +5,51 @@ use borrow.Author.Rules.{rules}
 use Rattle.local_basis.proofs.place.up.Statement.{statement}
 use Rattle.local_basis.proofs.place.up.Tie as tie
 
-up_one_requires : tie.Need-up-one-requires
+up_one_requires : tie.Need-up_one-one-requires
 up_one_requires c κs = search rules
 
-returns : tie.Need-returns
+returns : tie.Need-returns-then-n-eq1
 returns c =
-    let start = c.before.before in
-    up_1 start.args.four _ _ c.if1.true c.before.up_one.ensures
+    let start = c in
+    up_1 start.args.four _ _ c.if-n-eq1.true c.up_one-one.ensures
 
-up_one_requires_2 : tie.Need-up-one-requires-2
+up_one_requires_2 : tie.Need-up_one-two-requires
 up_one_requires_2 c κs =
     let at-up-one = c.before in
-    let start = at-up-one.before in
-    omega (arith, start.requires, c.if1.false, up_start start.args.four _ at-up-one.up_one.ensures)
+    let start = at-up-one in
+    omega (arith, start.requires, c.if-n-eq1.false, up_start start.args.four _ at-up-one.up_one-one.ensures)
 
-returns_2 : tie.Need-returns-2
+returns_2 : tie.Need-returns-then-n-eq2
 returns_2 c =
-    let at-up-one = c.before.before.before in
-    up_2 at-up-one.before.args.four _ _ _ c.if2.true at-up-one.up_one.ensures
-    c.before.up-one2.ensures
+    let at-up-one = c in
+    up_2 at-up-one.args.four _ _ _ c.if-n-eq2.true at-up-one.up_one-one.ensures
+    c.up_one-two.ensures
 
-up_one_requires_3 : tie.Need-up-one-requires-3
+up_one_requires_3 : tie.Need-up_one-requires
 up_one_requires_3 c κs =
     let at-up-one2 = c.before in
     let at-if1 = at-up-one2.before in
     let at-up-one = at-if1.before in
-    let start = at-up-one.before in
+    let start = at-up-one in
     omega (
       arith,
       start.requires,
-      at-if1.if1.false,
-      c.if2.false,
-      up_start start.args.four _ at-up-one.up_one.ensures,
-      up_start _ _ at-up-one2.up-one2.ensures,
+      at-if1.if-n-eq1.false,
+      c.if-n-eq2.false,
+      up_start start.args.four _ at-up-one.up_one-one.ensures,
+      up_start _ _ at-up-one2.up_one-two.ensures,
     )
 
-returns_3 : tie.Need-returns-3
+returns_3 : tie.Need-returns
 returns_3 c =
     let at-if2 = c.before in
     let at-up-one2 = at-if2.before in
     let at-if1 = at-up-one2.before in
     let at-up-one = at-if1.before in
-    let start = at-up-one.before in
-    up_3 start.args.four _ _ _ _ (omega (arith, start.requires, at-if1.if1.false, at-if2.if2.false))
-    at-up-one.up_one.ensures
-    at-up-one2.up-one2.ensures c.up-one3.ensures
+    let start = at-up-one in
+    up_3 start.args.four _ _ _ _ (omega (arith, start.requires, at-if1.if-n-eq1.false, at-if2.if-n-eq2.false))
+    at-up-one.up_one-one.ensures
+    at-up-one2.up_one-two.ensures c.up_one.ensures
 
 pub up_spec : {M : Type 1} → statement M
 up_spec =

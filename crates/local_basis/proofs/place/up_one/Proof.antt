@@ -5,7 +5,7 @@ use borrow.Author.Rules.{rules}
 use Rattle.local_basis.proofs.place.up_one.Statement.{statement}
 use Rattle.local_basis.proofs.place.up_one.Tie as tie
 
-sub_t2 : tie.Need-overflow-sub-t2
+sub_t2 : tie.Need-overflow_sub-result
 sub_t2 c = search rules
 
 returns : tie.Need-returns

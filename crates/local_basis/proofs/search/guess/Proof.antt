@@ -7,22 +7,22 @@ use Rattle.local_basis.proofs.Found.{lt_real}
 use Rattle.local_basis.proofs.search.guess.Statement.{statement}
 use Rattle.local_basis.proofs.search.guess.Tie as tie
 
-add_last : tie.Need-overflow-add-last
+add_last : tie.Need-overflow_add-last
 add_last c = search rules
 
-float_to_bits_whole : tie.Need-float-to-bits-whole
-float_to_bits_whole c = subst (λ (b : Bool). T (not b)) (sym (lt_real _ _ c.if1.true)) tt
+float_to_bits_whole : tie.Need-float_to_bits-whole
+float_to_bits_whole c = subst (λ (b : Bool). T (not b)) (sym (lt_real _ _ c.if-raised.true)) tt
 
-cast_whole : tie.Need-overflow-cast-whole
+cast_whole : tie.Need-overflow_cast-whole
 cast_whole c = search rules
 
-returns : tie.Need-returns
+returns : tie.Need-returns-then-whole-last
 returns c = search rules
 
-returns_2 : tie.Need-returns-2
+returns_2 : tie.Need-returns-else-whole-last
 returns_2 c = search rules
 
-returns_3 : tie.Need-returns-3
+returns_3 : tie.Need-returns-else-raised
 returns_3 c = search rules
 
 pub guess_spec : {M : Type 1} → statement M

@@ -4,7 +4,7 @@ use Rattle.spline.specs.Spline.{knot_of}
 use Rattle.local_basis.proofs.search.knot_at.Statement.{statement}
 use Rattle.local_basis.proofs.search.knot_at.Tie as tie
 
-knot_by_requires : tie.Need-knot-by-requires
+knot_by_requires : tie.Need-knot_by-requires
 knot_by_requires c κs = search rules
 
 returns : tie.Need-returns

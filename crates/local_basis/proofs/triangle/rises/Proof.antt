@@ -4,13 +4,13 @@ use Rattle.local_basis.specs.Fours.{rises_of}
 use Rattle.local_basis.proofs.triangle.rises.Statement.{statement}
 use Rattle.local_basis.proofs.triangle.rises.Tie as tie
 
-portion_requires : tie.Need-portion-requires
+portion_requires : tie.Need-portion-rise_low-requires
 portion_requires c κs = tt
 
-portion_requires_2 : tie.Need-portion-requires-2
+portion_requires_2 : tie.Need-portion-rise_middle-requires
 portion_requires_2 c κs = tt
 
-portion_requires_3 : tie.Need-portion-requires-3
+portion_requires_3 : tie.Need-portion-rise_high-requires
 portion_requires_3 c κs = tt
 
 less_requires : tie.Need-less-requires
@@ -20,10 +20,10 @@ returns : tie.Need-returns
 unfolding rises_of
 returns c =
     let second = c.before.before.before in
-    let first = second.before.before in
-    let low = first.portion.ensures in
-    let middle = second.portion2.ensures in
-    let high = c.before.portion3.ensures in
+    let first = second in
+    let low = first.portion-rise_low.ensures in
+    let middle = second.portion-rise_middle.ensures in
+    let high = c.portion-rise_high.ensures in
     λ i. record {
       start = c.less.ensures i;
       first = zero32 ⊖ low i;

@@ -7,14 +7,14 @@ use borrow.Author.Rules.{rules}
 use Rattle.npy_header.proofs.entries.comma.Statement.{statement}
 use Rattle.npy_header.proofs.entries.comma.Tie as tie
 
-past_token_requires : tie.Need-past-token-requires
+past_token_requires : tie.Need-past_token-requires
 past_token_requires c κs = search rules
 
 returns : tie.Need-returns
 unfolding comma_of asked_so_far
 returns c =
     λ sizes s w.
-    let found = c.past-token.ensures in
+    let found = c.past_token.ensures in
     record {
       place = record { inside = found.inside; rest = found.rest ∙ ap (after_token 44) w.place.rest };
       descr = w.descr;

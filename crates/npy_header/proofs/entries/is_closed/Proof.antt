@@ -12,13 +12,13 @@ use borrow.Author.Rules.{rules}
 use Rattle.npy_header.proofs.entries.is_closed.Statement.{statement}
 use Rattle.npy_header.proofs.entries.is_closed.Tie as tie
 
-past_optional_comma_requires : tie.Need-past-optional-comma-requires
+past_optional_comma_requires : tie.Need-past_optional_comma-last-requires
 past_optional_comma_requires c κs = search rules
 
-past_token_requires : tie.Need-past-token-requires
+past_token_requires : tie.Need-past_token-brace-requires
 past_token_requires c κs = search rules
 
-end_of_requires : tie.Need-end-of-requires
+end_of_requires : tie.Need-end_of-newline-requires
 end_of_requires c κs = search rules
 
 slice_aggregate_spells : tie.Need-slice-aggregate-spells
@@ -31,14 +31,14 @@ returns : tie.Need-returns
 unfolding is_closed
 returns c =
     let newline = c.before.before in
-    let brace = newline.before in
-    let text = brace.before.before.before.args.text.now in
-    let last = newline.end_of_lem.result in
+    let brace = newline in
+    let text = brace.args.text.now in
+    let last = newline.end_of-newline.result in
     let whole = take_all (length text - last) (drop last text) (rw length-drop (omega arith)) in
     c.spells.ensures
     ∙ ap (λ (t : List ℕ). same t (10 ∷ []))
-    (whole ∙ newline.end_of_lem.ensures.place.rest
-    ∙ ap (behind Space) (brace.past-token.ensures.rest ∙ ap (after_token 125) brace.before.past-optional-comma.ensures.rest))
+    (whole ∙ newline.end_of-newline.ensures.place.rest
+    ∙ ap (behind Space) (brace.past_token-brace.ensures.rest ∙ ap (after_token 125) brace.past_optional_comma-last.ensures.rest))
 
 pub is_closed_spec : {M : Type 1} → statement M
 is_closed_spec =
@@ -47,6 +47,5 @@ is_closed_spec =
     past_optional_comma_requires
     past_token_requires
     end_of_requires
-    slice_aggregate_spells
     spells_requires
     returns)

@@ -12,26 +12,26 @@ use Rattle.npy_header.proofs.entries.take_descr.Tie as tie
 failed_requires : tie.Need-failed-requires
 failed_requires c κs = search rules
 
-returns : tie.Need-returns
-returns c = λ sizes s w. descr_again _ sizes s _ w _ _ c.failed.ensures c.before.if1.true
+returns : tie.Need-returns-then-found
+returns c = λ sizes s w. descr_again _ sizes s _ w _ _ c.failed.ensures c.if-found.true
 
-string_requires : tie.Need-string-requires
+string_requires : tie.Need-string-value-requires
 string_requires c κs = search rules
 
 slice_aggregate_spells : tie.Need-slice-aggregate-spells
 slice_aggregate_spells c = search rules
 
-spells_requires : tie.Need-spells-requires
+spells_requires : tie.Need-spells-asked-requires
 spells_requires c κs = search rules
 
-returns_2 : tie.Need-returns-2
+returns_2 : tie.Need-returns
 unfolding single_word
 returns_2 c =
     λ sizes s w.
-    let test = c.before in
-    let value = test.before.before.string.ensures in
-    takes_descr _ sizes s _ w _ _ _ test.before.before.before.if1.false value.place
-    (test.spells.ensures ∙ ap (λ (t : List ℕ). same t single_word) value.content)
+    let test = c in
+    let value = test.string-value.ensures in
+    takes_descr _ sizes s _ w _ _ _ test.if-found.false value.place
+    (test.spells-asked.ensures ∙ ap (λ (t : List ℕ). same t single_word) value.content)
 
 pub take_descr_spec : {M : Type 1} → statement M
 take_descr_spec =
@@ -40,6 +40,5 @@ take_descr_spec =
     failed_requires
     returns
     string_requires
-    slice_aggregate_spells
     spells_requires
     returns_2)

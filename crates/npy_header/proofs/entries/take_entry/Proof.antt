@@ -8,27 +8,27 @@ use borrow.Author.Rules.{rules}
 use Rattle.npy_header.proofs.entries.take_entry.Statement.{statement}
 use Rattle.npy_header.proofs.entries.take_entry.Tie as tie
 
-string_requires : tie.Need-string-requires
+string_requires : tie.Need-string-key-requires
 string_requires c κs = search rules
 
-past_token_requires : tie.Need-past-token-requires
+past_token_requires : tie.Need-past_token-value-requires
 past_token_requires c κs = search rules
 
-take_value_requires : tie.Need-take-value-requires
+take_value_requires : tie.Need-take_value-requires
 take_value_requires c κs = search rules
 
 returns : tie.Need-returns
 unfolding entry_of
 returns c =
     λ s w.
-    let value = c.before in
-    let key = value.before.string.ensures in
-    let text = value.before.before.before.before.args.text.now in
-    let name = value.before.string.result in
+    let value = c in
+    let key = value.string-key.ensures in
+    let text = value.args.text.now in
+    let name = value.string-key.result in
     let words : part text name.from name.end ≡ string_in s.rest = key.content ∙ ap string_in w.place.rest in
-    let rest : drop value.past-token.result text ≡ after_token 58 (after_string s.rest) =
-    value.past-token.ensures.rest ∙ ap (after_token 58) (key.place.rest ∙ ap after_string w.place.rest) in
-    rw (← words, ← rest) (c.take-value.ensures s w)
+    let rest : drop value.past_token-value.result text ≡ after_token 58 (after_string s.rest) =
+    value.past_token-value.ensures.rest ∙ ap (after_token 58) (key.place.rest ∙ ap after_string w.place.rest) in
+    rw (← words, ← rest) (c.take_value.ensures s w)
 
 pub take_entry_spec : {M : Type 1} → statement M
 take_entry_spec =

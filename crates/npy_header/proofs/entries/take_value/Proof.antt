@@ -8,17 +8,17 @@ use Rattle.npy_header.proofs.entries.take_value.Statement.{statement}
 use Rattle.npy_header.proofs.entries.take_value.Tie as tie
 
 -- the tests before: the key is not `descr`, and not `fortran_order`
-abbrev no_descr : tie.Then2 → tie.Else1
-no_descr c = c.before.before.before
+abbrev no_descr : tie.Then-spells-2 → tie.Else-spells
+no_descr c = c.before.before.before.before
 
-abbrev no_descr' : tie.Else2 → tie.Else1
-no_descr' c = c.before.before.before
+abbrev no_descr' : tie.Else-spells-2 → tie.Else-spells
+no_descr' c = c.before.before.before.before
 
-abbrev no_order : tie.Then3 → tie.Else2
-no_order c = c.before.before.before
+abbrev no_order : tie.Then-spells-3 → tie.Else-spells-2
+no_order c = c.before.before.before.before
 
-abbrev no_order' : tie.Else3 → tie.Else2
-no_order' c = c.before.before.before
+abbrev no_order' : tie.Else-spells-3 → tie.Else-spells-2
+no_order' c = c.before.before.before.before
 
 slice_aggregate_spells : tie.Need-slice-aggregate-spells
 slice_aggregate_spells c = search rules
@@ -26,13 +26,13 @@ slice_aggregate_spells c = search rules
 spells_requires : tie.Need-spells-requires
 spells_requires c κs = search rules
 
-take_descr_requires : tie.Need-take-descr-requires
+take_descr_requires : tie.Need-take_descr-requires
 take_descr_requires c κs = search rules
 
-returns : tie.Need-returns
+returns : tie.Need-returns-then-spells
 unfolding with_value descr_word
 returns c =
-    λ s w. rw (sym c.before.before.spells.ensures ∙ c.before.if1.true) (c.take-descr.ensures _ s w)
+    λ s w. rw (sym c.spells.ensures ∙ c.if-spells.true) (c.take_descr.ensures _ s w)
 
 slice_aggregate_spells_2 : tie.Need-slice-aggregate-spells-2
 slice_aggregate_spells_2 c = search rules
@@ -40,17 +40,17 @@ slice_aggregate_spells_2 c = search rules
 spells_requires_2 : tie.Need-spells-requires-2
 spells_requires_2 c κs = search rules
 
-take_order_requires : tie.Need-take-order-requires
+take_order_requires : tie.Need-take_order-requires
 take_order_requires c κs = search rules
 
-returns_2 : tie.Need-returns-2
+returns_2 : tie.Need-returns-then-spells-2
 unfolding with_value descr_word order_word
 returns_2 c =
     λ s w.
     let test = c.before in
     let first = no_descr test in
-    rw (sym first.before.spells.ensures ∙ first.if1.left, sym test.before.spells2.ensures ∙ test.if2.true)
-    (c.take-order.ensures _ s w)
+    rw (sym first.spells.ensures ∙ first.if-spells.false, sym test.spells-2.ensures ∙ test.if-spells-2.true)
+    (c.take_order.ensures _ s w)
 
 slice_aggregate_spells_3 : tie.Need-slice-aggregate-spells-3
 slice_aggregate_spells_3 c = search rules
@@ -58,10 +58,10 @@ slice_aggregate_spells_3 c = search rules
 spells_requires_3 : tie.Need-spells-requires-3
 spells_requires_3 c κs = search rules
 
-take_shape_requires : tie.Need-take-shape-requires
+take_shape_requires : tie.Need-take_shape-requires
 take_shape_requires c κs = search rules
 
-returns_3 : tie.Need-returns-3
+returns_3 : tie.Need-returns-then-spells-3
 unfolding with_value descr_word order_word shape_word
 returns_3 c =
     λ s w.
@@ -69,16 +69,16 @@ returns_3 c =
     let second = no_order test in
     let first = no_descr' second in
     rw (
-      sym first.before.spells.ensures ∙ first.if1.left,
-      sym second.before.spells2.ensures ∙ second.if2.left,
-      sym test.before.spells3.ensures ∙ test.if3.true,
+      sym first.spells.ensures ∙ first.if-spells.false,
+      sym second.spells-2.ensures ∙ second.if-spells-2.false,
+      sym test.spells-3.ensures ∙ test.if-spells-3.true,
     )
-    (c.take-shape.ensures s w)
+    (c.take_shape.ensures s w)
 
 failed_requires : tie.Need-failed-requires
 failed_requires c κs = search rules
 
-returns_4 : tie.Need-returns-4
+returns_4 : tie.Need-returns
 unfolding with_value descr_word order_word shape_word
 returns_4 c =
     λ s w.
@@ -86,9 +86,9 @@ returns_4 c =
     let second = no_order' test in
     let first = no_descr' second in
     rw (
-      sym first.before.spells.ensures ∙ first.if1.left,
-      sym second.before.spells2.ensures ∙ second.if2.left,
-      sym test.before.spells3.ensures ∙ test.if3.false,
+      sym first.spells.ensures ∙ first.if-spells.false,
+      sym second.spells-2.ensures ∙ second.if-spells-2.false,
+      sym test.spells-3.ensures ∙ test.if-spells-3.false,
     )
     (fails _ _ s _ w _ c.failed.ensures)
 
@@ -97,14 +97,13 @@ take_value_spec =
     tie.close
     (tie.spec
     slice_aggregate_spells
+    slice_aggregate_spells_2
     spells_requires
     take_descr_requires
     returns
-    slice_aggregate_spells_2
     spells_requires_2
     take_order_requires
     returns_2
-    slice_aggregate_spells_3
     spells_requires_3
     take_shape_requires
     returns_3

@@ -9,40 +9,40 @@ use Rattle.npy_header.proofs.entries.text_fault.Statement.{statement}
 use Rattle.npy_header.proofs.entries.text_fault.Tie as tie
 
 -- where the text is closed
-abbrev closed : tie.Then2 → tie.Else1
+abbrev closed : tie.Then-not-found → tie.Else-not-is_closed
 closed c = c.before.before.before
 
-abbrev closed' : tie.Else2 → tie.Else1
+abbrev closed' : tie.Else-not-found → tie.Else-not-is_closed
 closed' c = c.before.before.before
 
-entries_requires : tie.Need-entries-requires
+entries_requires : tie.Need-entries-found-requires
 entries_requires c κs = search rules
 
-is_closed_requires : tie.Need-is-closed-requires
+is_closed_requires : tie.Need-is_closed-requires
 is_closed_requires c κs = search rules
 
-returns : tie.Need-returns
+returns : tie.Need-returns-then-not-is_closed
 returns c =
-    let found = c.before.before.entries.ensures in
-    sym (not_closed _ _ _ found (sym (not-true _ c.if1.true) ∙ c.before.is-closed.ensures))
+    let found = c.entries-found.ensures in
+    sym (not_closed _ _ _ found (sym (not-true _ c.if-not-is_closed.true-raw) ∙ c.is_closed.ensures))
 
-returns_2 : tie.Need-returns-2
+returns_2 : tie.Need-returns-then-not-found
 returns_2 c =
     let test = closed c in
-    sym (not_all _ _ _ test.before.before.entries.ensures (sym (not-false _ test.if1.left) ∙ test.before.is-closed.ensures)
-    (not-true _ c.if2.true))
+    sym (not_all _ _ _ test.entries-found.ensures (sym (not-false _ test.if-not-is_closed.false-raw) ∙ test.is_closed.ensures)
+    (not-true _ c.if-not-found.true-raw))
 
-returns_3 : tie.Need-returns-3
+returns_3 : tie.Need-returns-then-found
 returns_3 c =
     let test = closed' c.before in
-    sym (judged _ _ _ test.before.before.entries.ensures (sym (not-false _ test.if1.left) ∙ test.before.is-closed.ensures)
-    (not-false _ c.before.if2.false) ∙ ap (λ (t : Bool). t otherwise 30) c.if3.true)
+    sym (judged _ _ _ test.entries-found.ensures (sym (not-false _ test.if-not-is_closed.false-raw) ∙ test.is_closed.ensures)
+    (not-false _ c.if-not-found.false-raw) ∙ ap (λ (t : Bool). t otherwise 30) c.if-found.true)
 
-returns_4 : tie.Need-returns-4
+returns_4 : tie.Need-returns-else-found
 returns_4 c =
     let test = closed' c.before in
-    sym (judged _ _ _ test.before.before.entries.ensures (sym (not-false _ test.if1.left) ∙ test.before.is-closed.ensures)
-    (not-false _ c.before.if2.false) ∙ ap (λ (t : Bool). t otherwise 30) c.if3.false)
+    sym (judged _ _ _ test.entries-found.ensures (sym (not-false _ test.if-not-is_closed.false-raw) ∙ test.is_closed.ensures)
+    (not-false _ c.if-not-found.false-raw) ∙ ap (λ (t : Bool). t otherwise 30) c.if-found.false)
 
 pub text_fault_spec : {M : Type 1} → statement M
 text_fault_spec =

@@ -6,24 +6,24 @@ use borrow.Author.Rules.{rules}
 use Rattle.npy_header.proofs.entries.truth_at.Statement.{statement}
 use Rattle.npy_header.proofs.entries.truth_at.Tie as tie
 
-end_of_requires : tie.Need-end-of-requires
+end_of_requires : tie.Need-end_of-word-requires
 end_of_requires c κs = search rules
 
-stands_at_requires : tie.Need-stands-at-requires
+stands_at_requires : tie.Need-stands_at-requires
 stands_at_requires c κs = search rules
 
 slice_aggregate_past_bytes : tie.Need-slice-aggregate-past-bytes
 slice_aggregate_past_bytes c = search rules
 
-past_bytes_requires : tie.Need-past-bytes-requires
+past_bytes_requires : tie.Need-past_bytes-requires
 past_bytes_requires c κs = search rules
 
-returns : tie.Need-returns
+returns : tie.Need-returns-then-stands_at
 unfolding true_word false_word
 returns c =
-    let test = c.before.before in
-    let here = test.before.before.end_of_lem.ensures.place.rest in
-    let holds = sym test.if1.true ∙ test.before.stands_at.ensures ∙ ap (begins_with 84) here in
+    let test = c in
+    let here = test.end_of-word.ensures.place.rest in
+    let holds = sym test.if-stands_at.true ∙ test.stands_at.ensures ∙ ap (begins_with 84) here in
     record {
       holds = holds;
       place = record {
@@ -35,20 +35,20 @@ returns c =
 slice_aggregate_past_bytes_2 : tie.Need-slice-aggregate-past-bytes-2
 slice_aggregate_past_bytes_2 c = search rules
 
-past_bytes_requires_2 : tie.Need-past-bytes-requires-2
+past_bytes_requires_2 : tie.Need-past_bytes-requires-2
 past_bytes_requires_2 c κs = search rules
 
-returns_2 : tie.Need-returns-2
+returns_2 : tie.Need-returns
 unfolding true_word false_word
 returns_2 c =
-    let test = c.before.before in
-    let here = test.before.before.end_of_lem.ensures.place.rest in
-    let holds = sym test.if1.false ∙ test.before.stands_at.ensures ∙ ap (begins_with 84) here in
+    let test = c in
+    let here = test.end_of-word.ensures.place.rest in
+    let holds = sym test.if-stands_at.false ∙ test.stands_at.ensures ∙ ap (begins_with 84) here in
     record {
       holds = holds;
       place = record {
-        inside = c.past-bytes2.ensures.inside;
-        rest = c.past-bytes2.ensures.rest ∙ ap (after_bytes false_word) here ∙ rw (← holds);
+        inside = c.past_bytes-2.ensures.inside;
+        rest = c.past_bytes-2.ensures.rest ∙ ap (after_bytes false_word) here ∙ rw (← holds);
       };
     }
 
@@ -56,11 +56,10 @@ pub truth_at_spec : {M : Type 1} → statement M
 truth_at_spec =
     tie.close
     (tie.spec
+    slice_aggregate_past_bytes
     end_of_requires
     stands_at_requires
-    slice_aggregate_past_bytes
     past_bytes_requires
     returns
-    slice_aggregate_past_bytes_2
     past_bytes_requires_2
     returns_2)

@@ -4,27 +4,27 @@ use borrow.Author.Rules.{rules}
 use Rattle.npy_header.proofs.sizes.match_one.Statement.{statement}
 use Rattle.npy_header.proofs.sizes.match_one.Tie as tie
 
-mul_if2 : tie.Need-overflow-mul-if2
+mul_if2 : tie.Need-offset_bounds-shape-count
 mul_if2 c = search rules
 
-shared_slice_read_if2 : tie.Need-shared-slice-read-if2
+shared_slice_read_if2 : tie.Need-bounds-shape-count
 shared_slice_read_if2 c = search rules
 
-add_t11 : tie.Need-overflow-add-t11
+add_t11 : tie.Need-overflow_add-result
 add_t11 c = search rules
 
-returns : tie.Need-returns
+returns : tie.Need-returns-then-shape-count
 returns c =
-    let given = c.before.before.before in
-    one_found _ _ _ given.requires.0 c.before.before.if1.true c.if2.true
+    let given = c in
+    one_found _ _ _ given.requires.0 c.if-count-shape.true c.if-shape-count.true
 
-returns_2 : tie.Need-returns-2
+returns_2 : tie.Need-returns-else-shape-count
 returns_2 c =
-    let given = c.before.before.before in
-    one_other _ _ _ c.before.before.if1.true c.if2.false given.requires.0
+    let given = c in
+    one_other _ _ _ c.if-count-shape.true c.if-shape-count.false given.requires.0
 
-returns_3 : tie.Need-returns-3
-returns_3 c = one_too_many _ _ _ c.before.requires.1 c.if1.false
+returns_3 : tie.Need-returns-else-count-shape
+returns_3 c = one_too_many _ _ _ c.requires.1 c.if-count-shape.false
 
 pub match_one_spec : {M : Type 1} → statement M
 match_one_spec =

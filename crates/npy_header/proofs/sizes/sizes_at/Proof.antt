@@ -12,50 +12,50 @@ use Rattle.npy_header.proofs.Walks.{nearer, all_read}
 use Rattle.npy_header.proofs.sizes.sizes_at.Statement.{statement}
 use Rattle.npy_header.proofs.sizes.sizes_at.Tie as tie
 
-abbrev invariant-loop : tie.invariant-loop
+abbrev invariant-loop : tie.invariant-loop-walk
 invariant-loop text shape at walk₀ walk =
     (walk.matched.count ≤ length shape) × (walk.next ≤ length text)
     × (after_sizes (drop at text) ≡ cond walk.more (after_numbers (drop walk.next text)) (drop walk.next text))
     × (same (sizes_in (drop at text)) shape
     ≡ all_asked shape walk.matched (cond walk.more (numbers_in (drop walk.next text)) []))
 
-abbrev decreases-loop : tie.decreases-loop
+abbrev decreases-loop : tie.decreases-loop-walk
 decreases-loop text shape at walk₀ walk = cond walk.more (suc (length text - walk.next)) 0
 
-past_token_requires : tie.Need-past-token-requires invariant-loop decreases-loop
-past_token_requires c κs = c.before.before.requires.1
+past_token_requires : tie.Need-past_token-requires invariant-loop decreases-loop
+past_token_requires c κs = c.requires.1
 
-loop_holds : tie.Need-loop-init invariant-loop decreases-loop
+loop_holds : tie.Need-loop-walk-init invariant-loop decreases-loop
 loop_holds c =
-    let found = c.past-token.ensures in (
+    let found = c.past_token.ensures in (
       omega arith,
       found.inside,
       ap after_numbers (sym found.rest),
-      ap (λ (t : List ℕ). same (numbers_in t) c.before.before.before.args.shape.now) (sym found.rest),
+      ap (λ (t : List ℕ). same (numbers_in t) c.args.shape.now) (sym found.rest),
     )
 
-walk_on_requires : tie.Need-walk-on-requires invariant-loop decreases-loop
+walk_on_requires : tie.Need-walk_on-walk-requires invariant-loop decreases-loop
 walk_on_requires c κs =
-    let walk = c.before.loop in
-    (c.before.before.before.before.before.requires.0, walk.invariant.0, walk.invariant.1)
+    let walk = c.loop-walk in
+    (c.requires.0, walk.invariant.0, walk.invariant.1)
 
-loop_less : tie.Need-loop-smaller invariant-loop decreases-loop
+loop_less : tie.Need-loop-walk-smaller invariant-loop decreases-loop
 loop_less c =
-    let w = c.walk-on.ensures in
-    rw c.before.loop-test.true (nearer _ _ _ _ w.further w.inside)
+    let w = c.walk_on-walk.ensures in
+    rw c.loop-walk-test.true (nearer _ _ _ _ w.further w.inside)
 
-loop_again : tie.Need-loop-preserved invariant-loop decreases-loop
+loop_again : tie.Need-loop-walk-preserved invariant-loop decreases-loop
 loop_again c =
-    let w = c.walk-on.ensures in
-    let before = c.before.before.loop.invariant in
-    let more = c.before.loop-test.true in
+    let w = c.walk_on-walk.ensures in
+    let before = c.loop-walk.invariant in
+    let more = c.loop-walk-test.true in
     (w.few, w.inside, before.2 ∙ rw more w.rest, before.3 ∙ rw more w.numbers)
 
 returns : tie.Need-returns invariant-loop decreases-loop
 returns c =
-    let done = c.before.before.before in
-    let whole = done.before.loop.invariant in
-    all_read _ _ _ done.before.loop.walk done.loop-test.false whole.0 whole.1 whole.2 whole.3
+    let done = c in
+    let whole = done.loop-walk.invariant in
+    all_read _ _ _ done.loop-walk.walk done.loop-walk-test.false whole.0 whole.1 whole.2 whole.3
 
 pub sizes_at_spec : {M : Type 1} → statement M
 sizes_at_spec =

@@ -10,7 +10,7 @@ falling_requires : tie.Need-falling-requires
 falling_requires c κs = tt
 
 returns : tie.Need-returns
-returns c = λ i. c.before.rising.ensures i ⊕ c.falling.ensures i
+returns c = λ i. c.rising.ensures i ⊕ c.falling.ensures i
 
 pub blend_spec : {M : Type 1} → statement M
 blend_spec = tie.close (tie.spec rising_requires falling_requires returns)

@@ -9,64 +9,64 @@ use borrow.Author.Rules.{rules}
 use Rattle.spline.proofs.triangle.cubic_at.Statement.{statement}
 use Rattle.spline.proofs.triangle.cubic_at.Tie as tie
 
-width_requires : tie.Need-width-requires
+width_requires : tie.Need-width-w-requires
 width_requires c κs = search rules
 
-knot_by_requires : tie.Need-knot-by-requires
+knot_by_requires : tie.Need-knot_by-k1-requires
 knot_by_requires c κs = search rules
 
-add_knot_by : tie.Need-overflow-add-knot-by
+add_knot_by : tie.Need-overflow_add-i
 add_knot_by c = search rules
 
-knot_by_requires_2 : tie.Need-knot-by-requires-2
+knot_by_requires_2 : tie.Need-knot_by-k2-requires
 knot_by_requires_2 c κs = search rules
 
-add_knot_by_2 : tie.Need-overflow-add-knot-by-2
+add_knot_by_2 : tie.Need-overflow_add-i-2
 add_knot_by_2 c = search rules
 
-knot_by_requires_3 : tie.Need-knot-by-requires-3
+knot_by_requires_3 : tie.Need-knot_by-k3-requires
 knot_by_requires_3 c κs = search rules
 
-add_knot_by_3 : tie.Need-overflow-add-knot-by-3
+add_knot_by_3 : tie.Need-overflow_add-i-3
 add_knot_by_3 c = search rules
 
-knot_by_requires_4 : tie.Need-knot-by-requires-4
+knot_by_requires_4 : tie.Need-knot_by-k4-requires
 knot_by_requires_4 c κs = search rules
 
-add_knot_by_4 : tie.Need-overflow-add-knot-by-4
+add_knot_by_4 : tie.Need-overflow_add-i-4
 add_knot_by_4 c = search rules
 
-knot_by_requires_5 : tie.Need-knot-by-requires-5
+knot_by_requires_5 : tie.Need-knot_by-k5-requires
 knot_by_requires_5 c κs = search rules
 
-indicator_requires : tie.Need-indicator-requires
+indicator_requires : tie.Need-indicator-in1-requires
 indicator_requires c κs = search rules
 
-indicator_requires_2 : tie.Need-indicator-requires-2
+indicator_requires_2 : tie.Need-indicator-in2-requires
 indicator_requires_2 c κs = search rules
 
-indicator_requires_3 : tie.Need-indicator-requires-3
+indicator_requires_3 : tie.Need-indicator-in3-requires
 indicator_requires_3 c κs = search rules
 
-indicator_requires_4 : tie.Need-indicator-requires-4
+indicator_requires_4 : tie.Need-indicator-in4-requires
 indicator_requires_4 c κs = search rules
 
-blend_requires : tie.Need-blend-requires
+blend_requires : tie.Need-blend-line1-requires
 blend_requires c κs = search rules
 
-blend_requires_2 : tie.Need-blend-requires-2
+blend_requires_2 : tie.Need-blend-line2-requires
 blend_requires_2 c κs = search rules
 
-blend_requires_3 : tie.Need-blend-requires-3
+blend_requires_3 : tie.Need-blend-line3-requires
 blend_requires_3 c κs = search rules
 
-blend_requires_4 : tie.Need-blend-requires-4
+blend_requires_4 : tie.Need-blend-square1-requires
 blend_requires_4 c κs = search rules
 
-blend_requires_5 : tie.Need-blend-requires-5
+blend_requires_5 : tie.Need-blend-square2-requires
 blend_requires_5 c κs = search rules
 
-blend_requires_6 : tie.Need-blend-requires-6
+blend_requires_6 : tie.Need-blend-requires
 blend_requires_6 c κs = search rules
 
 portion_requires : tie.Need-portion-requires
@@ -93,35 +93,35 @@ returns c =
     let at-k3 = at-k4.before in
     let at-k2 = at-k3.before in
     let at-k1 = at-k2.before in
-    let w = at-k1.before.width.ensures in
-    let a = at-k1.before.before.args in
+    let w = at-k1.width-w.ensures in
+    let a = at-k1.args in
     let g = a.grid in
     let i = a.i in
     let x = a.x in
-    let k1 : at-k1.knot-by.result ≡ knot_of g i = rw (at-k1.knot-by.ensures, w) in
-    let k2 : at-k2.knot-by2.result ≡ knot_of g (i + 1) = rw (at-k2.knot-by2.ensures, w) in
-    let k3 : at-k3.knot-by3.result ≡ knot_of g (i + 2) = rw (at-k3.knot-by3.ensures, w) in
-    let k4 : at-k4.knot-by4.result ≡ knot_of g (i + 3) = rw (at-k4.knot-by4.ensures, w) in
-    let k5 : at-k5.knot-by5.result ≡ knot_of g (i + 4) = rw (at-k5.knot-by5.ensures, w) in
-    let in1 = at-in1.indicator.ensures ∙ at_degree_0 g x i (i + 1) refl k1 k2 in
-    let in2 = at-in2.indicator2.ensures ∙ at_degree_0 g x (i + 1) (i + 2) (omega arith) k2 k3 in
-    let in3 = at-in3.indicator3.ensures ∙ at_degree_0 g x (i + 2) (i + 3) (omega arith) k3 k4 in
-    let in4 = at-in4.indicator4.ensures ∙ at_degree_0 g x (i + 3) (i + 4) (omega arith) k4 k5 in
-    let line1 = at-line1.blend.ensures
+    let k1 : at-k1.knot_by-k1.result ≡ knot_of g i = rw (at-k1.knot_by-k1.ensures, w) in
+    let k2 : at-k2.knot_by-k2.result ≡ knot_of g (i + 1) = rw (at-k2.knot_by-k2.ensures, w) in
+    let k3 : at-k3.knot_by-k3.result ≡ knot_of g (i + 2) = rw (at-k3.knot_by-k3.ensures, w) in
+    let k4 : at-k4.knot_by-k4.result ≡ knot_of g (i + 3) = rw (at-k4.knot_by-k4.ensures, w) in
+    let k5 : at-k5.knot_by-k5.result ≡ knot_of g (i + 4) = rw (at-k5.knot_by-k5.ensures, w) in
+    let in1 = at-in1.indicator-in1.ensures ∙ at_degree_0 g x i (i + 1) refl k1 k2 in
+    let in2 = at-in2.indicator-in2.ensures ∙ at_degree_0 g x (i + 1) (i + 2) (omega arith) k2 k3 in
+    let in3 = at-in3.indicator-in3.ensures ∙ at_degree_0 g x (i + 2) (i + 3) (omega arith) k3 k4 in
+    let in4 = at-in4.indicator-in4.ensures ∙ at_degree_0 g x (i + 3) (i + 4) (omega arith) k4 k5 in
+    let line1 = at-line1.blend-line1.ensures
     ∙ a_degree_up g x 0 i (i + 1) (i + 1) (i + 2) refl (omega arith) (omega arith) k1 k2 k2 k3 in1 in2 in
-    let line2 = at-line2.blend2.ensures
+    let line2 = at-line2.blend-line2.ensures
     ∙ a_degree_up g x 0 (i + 1) (i + 2) (i + 2) (i + 3) (omega arith) (omega arith) (omega arith) k2 k3 k3 k4 in2 in3 in
-    let line3 = at-line3.blend3.ensures
+    let line3 = at-line3.blend-line3.ensures
     ∙ a_degree_up g x 0 (i + 2) (i + 3) (i + 3) (i + 4) (omega arith) (omega arith) (omega arith) k3 k4 k4 k5 in3 in4 in
     let square1 =
-    at-square1.blend4.ensures
+    at-square1.blend-square1.ensures
     ∙ a_degree_up g x 1 i (i + 1) (i + 2) (i + 3) refl (omega arith) (omega arith) k1 k2 k3 k4 line1 line2 in
     let square2 =
-    at-square2.blend5.ensures
+    at-square2.blend-square2.ensures
     ∙ a_degree_up g x 1 (i + 1) (i + 2) (i + 3) (i + 4) (omega arith) (omega arith) (omega arith) k2 k3 k4 k5 line2 line3 in (
-      at_value.blend6.ensures
+      at_value.blend.ensures
           ∙ a_degree_up g x 2 i (i + 1) (i + 3) (i + 4) refl (omega arith) (omega arith) k1 k2 k4 k5 square1 square2,
-      rw (c.before.portion.ensures, c.portion2.ensures, square1, square2, k1, k2, k4, k5),
+      rw (c.portion.ensures, c.portion-2.ensures, square1, square2, k1, k2, k4, k5),
     )
 
 pub cubic_at_spec : {M : Type 1} → statement M

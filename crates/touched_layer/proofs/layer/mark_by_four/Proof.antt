@@ -16,90 +16,90 @@ use Rattle.touched_layer.proofs.Layers.{edge_length}
 use Rattle.touched_layer.proofs.layer.mark_by_four.Statement.{statement}
 use Rattle.touched_layer.proofs.layer.mark_by_four.Tie as tie
 
-abbrev invariant-loop : tie.invariant-loop
+abbrev invariant-loop : tie.invariant-loop-o
 invariant-loop mesh x from row n map₀ eight o₀ map o =
     (o ≤ n) × (map ≡ marked_by (flat_to (λ (q : ℕ). in_row from row (edge_touched (basis_of mesh.grid) x)) o) map₀)
 
-abbrev decreases-loop : tie.decreases-loop
+abbrev decreases-loop : tie.decreases-loop-o
 decreases-loop mesh x from row n map₀ eight o₀ map o = n - o
 
 -- ---- from place to place: only these lines know how many places lie between
-abbrev entry : tie.At-loop invariant-loop decreases-loop → tie.Start invariant-loop decreases-loop
+abbrev entry : tie.At-loop-o invariant-loop decreases-loop → tie.Start invariant-loop decreases-loop
 entry c = c.before.before.before
 
-abbrev head : tie.In-loop invariant-loop decreases-loop → tie.At-loop invariant-loop decreases-loop
+abbrev head : tie.In-loop-o invariant-loop decreases-loop → tie.At-loop-o invariant-loop decreases-loop
 head c = c.before
 
-abbrev marked : tie.After-slice-known2 invariant-loop decreases-loop → tie.After-mark-edge invariant-loop decreases-loop
+abbrev marked : tie.After-slice_known-in-loop-o-1 invariant-loop decreases-loop → tie.After-mark_edge invariant-loop decreases-loop
 marked c = c.before.before
 
 -- ---- what is known in a turn
-abbrev tests : tie.At-loop invariant-loop decreases-loop → List Bool
+abbrev tests : tie.At-loop-o invariant-loop decreases-loop → List Bool
 tests c = edge_touched (basis_of (entry c).args.mesh.grid) (entry c).args.x
 
-size : (c : tie.At-loop invariant-loop decreases-loop) → length c.loop.map ≡ length (entry c).args.map.now
-size c = marked_size _ _ _ c.loop.invariant.1
+size : (c : tie.At-loop-o invariant-loop decreases-loop) → length c.loop-o.map ≡ length (entry c).args.map.now
+size c = marked_size _ _ _ c.loop-o.invariant.1
 
 -- the edge lies in its row, and that in the map
-inside : (c : tie.In-loop invariant-loop decreases-loop)
-    → (head c).loop.o * (entry (head c)).args.row + (entry (head c)).args.from
-    + ((entry (head c)).args.mesh.grid.intervals + 5) ≤ length (head c).loop.map
+inside : (c : tie.In-loop-o invariant-loop decreases-loop)
+    → (head c).loop-o.o * (entry (head c)).args.row + (entry (head c)).args.from
+    + ((entry (head c)).args.mesh.grid.intervals + 5) ≤ length (head c).loop-o.map
 inside c =
     let h = head c in
-    let lies = room h.loop.o (entry h).args.n (entry h).args.row _ c.loop-test.true (entry h).pre.3 in
-    omega (arith, lies, size h, (entry h).pre.2)
+    let lies = room h.loop-o.o (entry h).args.n (entry h).args.row _ c.loop-o-test.true (entry h).requires.3 in
+    omega (arith, lies, size h, (entry h).requires.2)
 
 -- ---- the needs
-both_at_requires : tie.Need-both-at-requires invariant-loop decreases-loop
-both_at_requires c κs = (c.before.requires.0, c.before.requires.1)
+both_at_requires : tie.Need-both_at-eight-requires invariant-loop decreases-loop
+both_at_requires c κs = (c.requires.0, c.requires.1)
 
-loop_holds : tie.Need-loop-init invariant-loop decreases-loop
+loop_holds : tie.Need-loop-o-init invariant-loop decreases-loop
 loop_holds c = (omega arith, marked_first _ _)
 
-mul_at : tie.Need-overflow-mul-at invariant-loop decreases-loop
+mul_at : tie.Need-overflow_mul-at invariant-loop decreases-loop
 mul_at c = omega (arith, inside c, size (head c), (entry (head c)).good)
 
-add_at : tie.Need-overflow-add-at invariant-loop decreases-loop
+add_at : tie.Need-overflow_add-at invariant-loop decreases-loop
 add_at c = omega (arith, inside c, size (head c), (entry (head c)).good)
 
-sub_mark_edge : tie.Need-overflow-sub-mark-edge invariant-loop decreases-loop
-sub_mark_edge c = omega (arith, inside c)
+sub_mark_edge : tie.Need-slice_bounds-mark_edge-count invariant-loop decreases-loop
+sub_mark_edge c = omega (arith, inside c.before)
 
-part_mark_edge_start : tie.Need-slice-bounds-mark-edge-start invariant-loop decreases-loop
-part_mark_edge_start c = omega (arith, inside c)
+part_mark_edge_start : tie.Need-slice_bounds-mark_edge-start invariant-loop decreases-loop
+part_mark_edge_start c = omega (arith, inside c.before)
 
-part_mark_edge_end : tie.Need-slice-bounds-mark-edge-end invariant-loop decreases-loop
+part_mark_edge_end : tie.Need-slice_bounds-mark_edge-end invariant-loop decreases-loop
 part_mark_edge_end c = omega arith
 
-mark_edge_requires : tie.Need-mark-edge-requires invariant-loop decreases-loop
+mark_edge_requires : tie.Need-mark_edge-requires invariant-loop decreases-loop
 mark_edge_requires c κs =
     let t = c.before in
-    ((head t).before.both_at.ensures, rw rest_length (omega (arith, inside t)))
+    ((head t.before).both_at-eight.ensures, rw rest_length (omega (arith, inside t.before)))
 
-add_o : tie.Need-overflow-add-o invariant-loop decreases-loop
+add_o : tie.Need-overflow_step-o invariant-loop decreases-loop
 add_o c = omega arith
 
-loop_less : tie.Need-loop-smaller invariant-loop decreases-loop
+loop_less : tie.Need-loop-o-smaller invariant-loop decreases-loop
 loop_less c = omega arith
 
-loop_again : tie.Need-loop-preserved invariant-loop decreases-loop
+loop_again : tie.Need-loop-o-preserved invariant-loop decreases-loop
 loop_again c =
     let m = marked c in
     let t = m.before.before in
     let h = head t in (
       omega arith,
-      one_output (entry h).args.from (entry h).args.row (tests h) (rw edge_length (entry h).pre.2) h.loop.o _
-          h.loop.map _ h.loop.inv.1 (omega (arith, inside t)) (m.mark-edge.ensures ∙ rw rest),
+      one_output (entry h).args.from (entry h).args.row (tests h) (rw edge_length (entry h).requires.2) h.loop-o.o _
+          h.loop-o.map _ h.loop-o.invariant.1 (omega (arith, inside t)) (m.mark_edge.ensures ∙ rw rest),
     )
 
-same_length : tie.Need-same-length invariant-loop decreases-loop
+same_length : tie.Need-shape_of-map invariant-loop decreases-loop
 same_length c = size c.before
 
 returns : tie.Need-returns invariant-loop decreases-loop
 returns c =
     let h = c.before in
-    let all : h.loop.o ≡ (entry h).args.n = omega arith in
-    rw all at h.loop.invariant.1
+    let all : h.loop-o.o ≡ (entry h).args.n = omega arith in
+    rw all at h.loop-o.invariant.1
 
 pub mark_by_four_spec : {M : Type 1} → statement M
 mark_by_four_spec =

@@ -11,35 +11,35 @@ use Rattle.touched_layer.proofs.layer.mark_edge.Statement.{statement}
 use Rattle.touched_layer.proofs.layer.mark_edge.Tie as tie
 
 -- ---- from place to place: only these lines know how many places lie between
-abbrev entry : tie.After-mark-four-arg → tie.Start
+abbrev entry : tie.After-mark_four-arg-1 → tie.Start
 entry c = c.before.before
 
-abbrev marked : tie.After-slice-known2 → tie.After-mark-four
+abbrev marked : tie.After-slice_known-2-1 → tie.After-mark_four
 marked c = c.before.before
 
 -- ---- the needs
-slice_write_map : tie.Need-slice-write-map
+slice_write_map : tie.Need-bounds-map-0
 slice_write_map c = search rules
 
-slice_write_map_2 : tie.Need-slice-write-map-2
+slice_write_map_2 : tie.Need-bounds-map-1
 slice_write_map_2 c = simp length-set (omega arith)
 
-sub_mark_four : tie.Need-overflow-sub-mark-four
+sub_mark_four : tie.Need-slice_bounds-mark_four-count
 sub_mark_four c = simp length-set (omega arith)
 
-part_mark_four_start : tie.Need-slice-bounds-mark-four-start
+part_mark_four_start : tie.Need-slice_bounds-mark_four-start
 part_mark_four_start c = simp length-set (omega arith)
 
-part_mark_four_end : tie.Need-slice-bounds-mark-four-end
+part_mark_four_end : tie.Need-slice_bounds-mark_four-end
 part_mark_four_end c = search rules
 
-mark_four_requires : tie.Need-mark-four-requires
+mark_four_requires : tie.Need-mark_four-requires
 mark_four_requires c κs =
     let p = (entry c).requires in
     rw (rest_length, length-set, length-set) (omega (arith, p.0.values.fit, p.1))
 
-same_length : tie.Need-same-length
-same_length c = c.before.map.given.1 ∙ simp length-set
+same_length : tie.Need-shape_of-map
+same_length c = c.map-1.given.1 ∙ simp length-set
 
 returns : tie.Need-returns
 unfolding edge_touched
@@ -47,7 +47,7 @@ returns c =
     let m = marked c in
     let p = (entry m.before).requires in
     marked_two _ _ _ (omega (arith, p.1))
-    (m.mark-four.ensures
+    (m.mark_four.ensures
     ∙ four_marked_lem p.0 _ (rw (rest_length, length-set, length-set) (omega (arith, p.1))) ∙ rw rest)
 
 pub mark_edge_spec : {M : Type 1} → statement M

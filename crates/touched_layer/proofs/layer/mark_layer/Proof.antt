@@ -26,36 +26,36 @@ edges g xs j = edge_touched (basis_of g) (at xs j)
 abbrev row_done : Grid → List Float → ℕ → List Bool
 row_done g xs i = in_row 0 (length xs * (g.intervals + 5)) (flat_to (edges g xs) i)
 
-abbrev invariant-loop : tie.invariant-loop
+abbrev invariant-loop : tie.invariant-loop-i
 invariant-loop mesh inputs n map₀ stride row i₀ i-end map i =
     (i ≤ length inputs) × (map ≡ marked_by (flat_to (λ (o : ℕ). row_done mesh.grid inputs i) n) map₀)
 
-abbrev decreases-loop : tie.decreases-loop
+abbrev decreases-loop : tie.decreases-loop-i
 decreases-loop mesh inputs n map₀ stride row i₀ i-end map i = length inputs - i
 
 -- ---- from place to place: only these lines know how many places lie between
-abbrev lent : tie.After-struct-known invariant-loop decreases-loop → tie.Start invariant-loop decreases-loop
+abbrev lent : tie.After-struct_known-1 invariant-loop decreases-loop → tie.Start invariant-loop decreases-loop
 lent c = c.before.before.before
 
-abbrev entry : tie.At-loop invariant-loop decreases-loop → tie.Start invariant-loop decreases-loop
+abbrev entry : tie.At-loop-i invariant-loop decreases-loop → tie.Start invariant-loop decreases-loop
 entry c = lent c.before
 
-abbrev head : tie.In-loop invariant-loop decreases-loop → tie.At-loop invariant-loop decreases-loop
+abbrev head : tie.In-loop-i invariant-loop decreases-loop → tie.At-loop-i invariant-loop decreases-loop
 head c = c.before
 
-abbrev turn : tie.After-mark-input invariant-loop decreases-loop → tie.In-loop invariant-loop decreases-loop
+abbrev turn : tie.After-mark_input invariant-loop decreases-loop → tie.In-loop-i invariant-loop decreases-loop
 turn c = c.before.before.before
 
 -- ---- what is known in a turn
-size : (c : tie.At-loop invariant-loop decreases-loop) → length c.loop.map ≡ length (entry c).args.map.now
-size c = marked_size _ _ _ c.loop.invariant.1
+size : (c : tie.At-loop-i invariant-loop decreases-loop) → length c.loop-i.map ≡ length (entry c).args.map.now
+size c = marked_size _ _ _ c.loop-i.invariant.1
 
 -- the edge lies in its row
-inside : (c : tie.In-loop invariant-loop decreases-loop)
-    → (head c).loop.i * ((entry (head c)).args.mesh.grid.intervals + 5)
+inside : (c : tie.In-loop-i invariant-loop decreases-loop)
+    → (head c).loop-i.i * ((entry (head c)).args.mesh.grid.intervals + 5)
     + ((entry (head c)).args.mesh.grid.intervals + 5)
     ≤ length (entry (head c)).args.inputs.now * ((entry (head c)).args.mesh.grid.intervals + 5)
-inside c = room (head c).loop.i (length (entry (head c)).args.inputs.now) _ _ c.loop-test.true (le_refl _)
+inside c = room (head c).loop-i.i (length (entry (head c)).args.inputs.now) _ _ c.loop-i-test.true (le_refl _)
 
 -- a row lies in the map
 row_in : (c : tie.Start invariant-loop decreases-loop)
@@ -63,49 +63,49 @@ row_in : (c : tie.Start invariant-loop decreases-loop)
 row_in c = row_room _ _ _ c.requires.1 c.requires.2
 
 -- ---- the needs
-add_stride : tie.Need-overflow-add-stride invariant-loop decreases-loop
+add_stride : tie.Need-overflow_add-stride invariant-loop decreases-loop
 add_stride c = omega arith
 
-mul_row : tie.Need-overflow-mul-row invariant-loop decreases-loop
+mul_row : tie.Need-overflow_mul-row invariant-loop decreases-loop
 mul_row c = let s = lent c in omega (arith, row_in s, s.good)
 
-loop_holds : tie.Need-loop-init invariant-loop decreases-loop
+loop_holds : tie.Need-loop-i-init invariant-loop decreases-loop
 unfolding flat_to
 loop_holds c = (omega arith, none_in_rows 0 _ (lent c).args.n _)
 
-mul_mark_input : tie.Need-overflow-mul-mark-input invariant-loop decreases-loop
+mul_mark_input : tie.Need-offset_bounds-inputs-i invariant-loop decreases-loop
 mul_mark_input c = let s = entry (head c) in omega (arith, inside c, row_in s, s.good)
 
-shared_slice_read_mark_input : tie.Need-shared-slice-read-mark-input invariant-loop decreases-loop
+shared_slice_read_mark_input : tie.Need-bounds-inputs-i invariant-loop decreases-loop
 shared_slice_read_mark_input c = omega arith
 
-mul_mark_input_2 : tie.Need-overflow-mul-mark-input-2 invariant-loop decreases-loop
+mul_mark_input_2 : tie.Need-overflow_mul-i invariant-loop decreases-loop
 mul_mark_input_2 c = let t = c.before in let s = entry (head t) in omega (arith, inside t, row_in s, s.good)
 
-mark_input_requires : tie.Need-mark-input-requires invariant-loop decreases-loop
+mark_input_requires : tie.Need-mark_input-requires invariant-loop decreases-loop
 mark_input_requires c κs =
     let t = c.before.before in
     let s = entry (head t) in
-    (s.pre.0, inside t, omega (arith, size (head t), s.pre.2))
+    (s.requires.0, inside t, omega (arith, size (head t), s.requires.2))
 
-add_i : tie.Need-overflow-add-i invariant-loop decreases-loop
+add_i : tie.Need-overflow_step-i invariant-loop decreases-loop
 add_i c = omega arith
 
-loop_less : tie.Need-loop-smaller invariant-loop decreases-loop
+loop_less : tie.Need-loop-i-smaller invariant-loop decreases-loop
 loop_less c = omega arith
 
-loop_again : tie.Need-loop-preserved invariant-loop decreases-loop
+loop_again : tie.Need-loop-i-preserved invariant-loop decreases-loop
 loop_again c =
     let m = c.before.before in
     let t = turn m in
     let h = head t in
     let a = (entry h).args in (
       omega arith,
-      flat_in_rows (edges a.mesh.grid a.inputs.now) _ (λ j. edge_length _ _) _ a.n h.loop.i _ _ _
-          (inside t) h.loop.inv.1 m.mark-input.ensures,
+      flat_in_rows (edges a.mesh.grid a.inputs.now) _ (λ j. edge_length _ _) _ a.n h.loop-i.i _ _ _
+          (inside t) h.loop-i.invariant.1 m.mark_input.ensures,
     )
 
-same_length : tie.Need-same-length invariant-loop decreases-loop
+same_length : tie.Need-shape_of-map invariant-loop decreases-loop
 same_length c = size c.before
 
 returns : tie.Need-returns invariant-loop decreases-loop
@@ -113,8 +113,8 @@ unfolding layer_touched node_touched
 returns c =
     let h = c.before in
     let a = (entry h).args in
-    let all : h.loop.i ≡ length a.inputs.now = omega arith in
-    (rw all at h.loop.invariant.1)
+    let all : h.loop-i.i ≡ length a.inputs.now = omega arith in
+    (rw all at h.loop-i.invariant.1)
     ∙ ap (λ (bs : List Bool). marked_by (flat_to (λ (o : ℕ). bs) a.n) a.map.now)
     (whole_row _ (node_touched (basis_of a.mesh.grid) a.inputs.now)
     (node_length a.mesh.grid a.inputs.now))

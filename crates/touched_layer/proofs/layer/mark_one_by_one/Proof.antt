@@ -22,91 +22,91 @@ abbrev coefficients : Grid → Float → ℕ → List Bool
 coefficients g x k = tabulate (λ (j : ℕ). touches (basis_of g) j x) k
 
 -- both weights are marked before the loop
-abbrev invariant-loop : tie.invariant-loop
+abbrev invariant-loop : tie.invariant-loop-k
 invariant-loop grid x from row n map₀ k₀ k-end map k =
     (k ≤ grid.intervals + 3)
     × (map ≡ marked_by (flat_to (λ (o : ℕ). in_row (from + 2) row (coefficients grid x k)) n) map₀)
 
-abbrev decreases-loop : tie.decreases-loop
+abbrev decreases-loop : tie.decreases-loop-k
 decreases-loop grid x from row n map₀ k₀ k-end map k = grid.intervals + 3 - k
 
 -- ---- from place to place: only these lines know how many places lie between
-abbrev outset : tie.After-mark-column invariant-loop decreases-loop → tie.Start invariant-loop decreases-loop
+abbrev outset : tie.After-mark_column invariant-loop decreases-loop → tie.Start invariant-loop decreases-loop
 outset c = c.before.before.before
 
-abbrev base : tie.After-mark-column-arg2 invariant-loop decreases-loop → tie.After-mark-column invariant-loop decreases-loop
+abbrev base : tie.After-mark_column-arg-2-1 invariant-loop decreases-loop → tie.After-mark_column invariant-loop decreases-loop
 base c = c.before.before.before
 
-abbrev weights : tie.After-struct-known invariant-loop decreases-loop → tie.After-mark-column2 invariant-loop decreases-loop
+abbrev weights : tie.After-struct_known-1 invariant-loop decreases-loop → tie.After-mark_column-2 invariant-loop decreases-loop
 weights c = c.before.before.before
 
-abbrev entry : tie.After-struct-known invariant-loop decreases-loop → tie.Start invariant-loop decreases-loop
+abbrev entry : tie.After-struct_known-1 invariant-loop decreases-loop → tie.Start invariant-loop decreases-loop
 entry c = outset (base (weights c).before)
 
-abbrev head : tie.After-is-touched invariant-loop decreases-loop → tie.At-loop invariant-loop decreases-loop
+abbrev head : tie.After-is_touched invariant-loop decreases-loop → tie.At-loop-k invariant-loop decreases-loop
 head c = c.before.before
 
-abbrev marked : tie.After-slice-known4 invariant-loop decreases-loop → tie.After-mark-column3 invariant-loop decreases-loop
+abbrev marked : tie.After-slice_known-in-loop-k-1 invariant-loop decreases-loop → tie.After-mark_column-in-loop-k invariant-loop decreases-loop
 marked c = c.before.before
 
 -- ---- the map keeps its length
-size : (c : tie.At-loop invariant-loop decreases-loop) → length c.loop.map ≡ length (entry c.before).args.map.now
+size : (c : tie.At-loop-k invariant-loop decreases-loop) → length c.loop-k.map ≡ length (entry c.before).args.map.now
 size c =
     let w = weights c.before in
-    marked_size _ _ _ c.loop.invariant.1 ∙ marked_size _ _ _ w.mark-column2.ensures
-    ∙ marked_size _ _ _ (base w.before).mark-column.ensures
+    marked_size _ _ _ c.loop-k.invariant.1 ∙ marked_size _ _ _ w.mark_column-2.ensures
+    ∙ marked_size _ _ _ (base w.before).mark_column.ensures
 
 -- ---- the needs
-mark_column_requires : tie.Need-mark-column-requires invariant-loop decreases-loop
+mark_column_requires : tie.Need-mark_column-requires invariant-loop decreases-loop
 mark_column_requires c κs = omega arith
 
-add_mark_column : tie.Need-overflow-add-mark-column invariant-loop decreases-loop
+add_mark_column : tie.Need-overflow_add-from invariant-loop decreases-loop
 add_mark_column c = omega arith
 
-mark_column_requires_2 : tie.Need-mark-column-requires-2 invariant-loop decreases-loop
+mark_column_requires_2 : tie.Need-mark_column-requires-2 invariant-loop decreases-loop
 mark_column_requires_2 c κs =
     let b = base c in
-    omega (arith, (outset b).pre, marked_size _ _ _ b.mark-column.ensures)
+    omega (arith, (outset b).requires, marked_size _ _ _ b.mark_column.ensures)
 
-add_k_end : tie.Need-overflow-add-k-end invariant-loop decreases-loop
+add_k_end : tie.Need-overflow_add-k-end invariant-loop decreases-loop
 add_k_end c = omega (arith, (entry c).requires)
 
-loop_holds : tie.Need-loop-init invariant-loop decreases-loop
+loop_holds : tie.Need-loop-k-init invariant-loop decreases-loop
 unfolding tabulate
 loop_holds c = (omega arith, none_in_rows _ _ (entry c).args.n _)
 
-is_touched_requires : tie.Need-is-touched-requires invariant-loop decreases-loop
-is_touched_requires c κs = omega (arith, (entry c.before.before).pre)
+is_touched_requires : tie.Need-is_touched-requires invariant-loop decreases-loop
+is_touched_requires c κs = omega (arith, (entry c.before.before).requires)
 
-add_mark_column_2 : tie.Need-overflow-add-mark-column-2 invariant-loop decreases-loop
+add_mark_column_2 : tie.Need-overflow_add-from-in-loop-k invariant-loop decreases-loop
 add_mark_column_2 c = omega (arith, entry (head c).before)
 
-add_mark_column_3 : tie.Need-overflow-add-mark-column-3 invariant-loop decreases-loop
+add_mark_column_3 : tie.Need-overflow_add-from-in-loop-k-2 invariant-loop decreases-loop
 add_mark_column_3 c = omega (arith, entry (head c).before)
 
-mark_column_requires_3 : tie.Need-mark-column-requires-3 invariant-loop decreases-loop
+mark_column_requires_3 : tie.Need-mark_column-requires-in-loop-k invariant-loop decreases-loop
 mark_column_requires_3 c κs =
     let h = head c.before in
-    omega (arith, size h, (entry h.before).pre)
+    omega (arith, size h, (entry h.before).requires)
 
-add_k : tie.Need-overflow-add-k invariant-loop decreases-loop
+add_k : tie.Need-overflow_step-k invariant-loop decreases-loop
 add_k c = omega arith
 
-loop_less : tie.Need-loop-smaller invariant-loop decreases-loop
+loop_less : tie.Need-loop-k-smaller invariant-loop decreases-loop
 loop_less c = omega arith
 
-loop_again : tie.Need-loop-preserved invariant-loop decreases-loop
+loop_again : tie.Need-loop-k-preserved invariant-loop decreases-loop
 loop_again c =
     let m = marked c in
     let t = m.before.before in
     let h = head t in
     let s = entry h.before in (
       omega arith,
-      table_in_rows _ _ _ s.args.n _ _ _ _ _ (omega (arith, s.pre)) t.is-touched.ensures h.loop.inv.1
-          m.mark-column3.ensures,
+      table_in_rows _ _ _ s.args.n _ _ _ _ _ (omega (arith, s.requires)) t.is_touched.ensures h.loop-k.invariant.1
+          m.mark_column-in-loop-k.ensures,
     )
 
-same_length : tie.Need-same-length invariant-loop decreases-loop
+same_length : tie.Need-shape_of-map invariant-loop decreases-loop
 same_length c = size c.before
 
 returns : tie.Need-returns invariant-loop decreases-loop
@@ -117,13 +117,13 @@ returns c =
     let s = entry h.before in
     let a = s.args in
     let m = a.grid.intervals + 3 in
-    let all : h.loop.k ≡ m = omega arith in
+    let all : h.loop-k.k ≡ m = omega arith in
     let rest = coefficients a.grid a.x m in
     let size : length rest ≡ m = tab_length _ m in
-    let two = more_in_rows _ _ (true ∷ []) (true ∷ []) (omega (arith, s.pre)) _ a.n _ _ _ refl
-    (base w.before).mark-column.ensures w.mark-column2.ensures in
-    more_in_rows _ _ (true ∷ true ∷ []) rest (omega (arith, s.pre)) _ a.n _ _ _ refl two
-    (rw all at h.loop.invariant.1)
+    let two = more_in_rows _ _ (true ∷ []) (true ∷ []) (omega (arith, s.requires)) _ a.n _ _ _ refl
+    (base w.before).mark_column.ensures w.mark_column-2.ensures in
+    more_in_rows _ _ (true ∷ true ∷ []) rest (omega (arith, s.requires)) _ a.n _ _ _ refl two
+    (rw all at h.loop-k.invariant.1)
 
 pub mark_one_by_one_spec : {M : Type 1} → statement M
 mark_one_by_one_spec =

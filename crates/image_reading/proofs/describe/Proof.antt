@@ -20,7 +20,7 @@ tested c = c.before
 
 -- ---- what is known of an image whose survey was accepted
 sound : (c : tie.In-Sound)
-    → survey_of (entry (accepted c)).args.image.now ≡ Sound c.in-Sound.given.0.0
+    → survey_of (entry (accepted c)).args.image.now ≡ Sound c.in-Sound.description
 sound c = sym (accepted c).survey-surveyed.ensures ∙ c.in-Sound.is
 
 -- ---- the needs

@@ -20,11 +20,11 @@ refused c = c.before
 
 -- ---- what is known of an image that `describe` accepts, and of one that it refuses
 sound : (c : tie.In-Sound)
-    → describe_of (entry (accepted c)).args.image.now ≡ Sound c.in-Sound.given.0.0
+    → describe_of (entry (accepted c)).args.image.now ≡ Sound c.in-Sound.description
 sound c = sym (accepted c).describe-described.ensures ∙ c.in-Sound.is
 
 unsound : (c : tie.In-Refused)
-    → describe_of (entry (refused c)).args.image.now ≡ Refused c.in-Refused.given.0.0
+    → describe_of (entry (refused c)).args.image.now ≡ Refused c.in-Refused.refusal
 unsound c = sym (refused c).describe-described.ensures ∙ c.in-Refused.is
 
 -- ---- the needs

@@ -37,8 +37,8 @@ trailered : (c : tie.After-trailer_fault-fault)
 trailered c =
     let some = (read c).before in
     record {
-      short = some.before.if-image-gt-MOST_BYTES.left;
-      long = some.if-image-lt-TRAILER_BYTES.left;
+      short = some.before.if-image-gt-MOST_BYTES.false;
+      long = some.if-image-lt-TRAILER_BYTES.false;
       read = (read c).trailer_at-trailer.ensures;
       fault = c.trailer_fault-fault.ensures;
     }
@@ -98,7 +98,7 @@ enum_known_checked_2 c = search rules
 describe_length_requires : tie.Need-describe_length-requires
 describe_length_requires c κs =
     let few = few_parameters_lem _ _ _ (sym (sized c).check_widths-checked.ensures ∙ c.in-Sound.is) in
-    ((read (tested (checked (sized c)))).trailer-at.ensures.few, omega (arith, few))
+    ((read (tested (checked (sized c)))).trailer_at-trailer.ensures.few, omega (arith, few))
 
 returns_5 : tie.Need-returns-in-Refused
 returns_5 c =

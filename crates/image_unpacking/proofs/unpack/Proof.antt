@@ -10,82 +10,82 @@ use Rattle.image_unpacking.proofs.unpack.Statement.{statement}
 use Rattle.image_unpacking.proofs.unpack.Tie as tie
 
 -- ---- from place to place: only these lines know how many places lie between
-abbrev entry : tie.After-describe → tie.Start
+abbrev entry : tie.After-describe-described → tie.Start
 entry c = c.before.before.before.before
 
-abbrev accepted : tie.After-known-told2 → tie.After-describe
-accepted c = c.before.before.before
+abbrev accepted : tie.In-Sound → tie.After-describe-described
+accepted c = c.before
 
-abbrev counted : tie.After-struct-known → tie.After-known-told2
+abbrev counted : tie.After-struct_known-1 → tie.In-Sound
 counted c = c.before
 
-abbrev widthed : tie.After-struct-known2 → tie.Then1
+abbrev widthed : tie.After-struct_known-then-widths-description-1 → tie.Then-widths-description
 widthed c = c.before
 
-abbrev roomy : tie.After-take-sizes-arg → tie.Then2
+abbrev roomy : tie.After-take_sizes-arg-1 → tie.Then-model-description
 roomy c = c.before.before
 
-abbrev taken : tie.After-take-floats-arg → tie.After-take-sizes
+abbrev taken : tie.After-take_floats-arg-1 → tie.After-take_sizes
 taken c = c.before.before.before
 
-abbrev done : tie.After-slice-known4 → tie.After-take-floats
+abbrev done : tie.After-slice_known-then-model-description-2-1 → tie.After-take_floats
 done c = c.before.before
 
 -- ---- what is known of an image that `describe` accepts
-sound : (c : tie.After-known-told2)
-    → describe_of (entry (accepted c)).args.image.now ≡ Sound c.before.described2.given.0.0
-sound c = sym (accepted c).describe.ensures ∙ c.before.described2.given.1
+sound : (c : tie.In-Sound)
+    → describe_of (entry (accepted c)).args.image.now ≡ Sound c.in-Sound.description
+sound c = sym (accepted c).describe-described.ensures ∙ c.in-Sound.is
 
 -- ---- the needs
-describe_requires : tie.Need-describe-requires
+describe_requires : tie.Need-describe-described-requires
 describe_requires c κs = search rules
 
-enum_known_described : tie.Need-enum-known-described
+enum_known_described : tie.Need-enum_known-described
 enum_known_described c = search rules
 
-enum_known_described_2 : tie.Need-enum-known-described-2
+enum_known_described_2 : tie.Need-enum_known-described-in-Sound-1
 enum_known_described_2 c = search rules
 
-mul_from : tie.Need-overflow-mul-from
+mul_from : tie.Need-overflow_mul-from
 mul_from c = search rules
 
-take_sizes_requires : tie.Need-take-sizes-requires
+take_sizes_requires : tie.Need-take_sizes-requires
 take_sizes_requires c κs =
     let one = widthed (roomy c).before in
-    omega (arith, described_room _ _ (sound (counted one.before)), one.if1.taken)
+    omega (arith, described_room _ _ (sound (counted one.before)), one.if-widths-description.true)
 
-take_floats_requires : tie.Need-take-floats-requires
+take_floats_requires : tie.Need-take_floats-requires
 take_floats_requires c κs =
     let two = roomy (taken c).before in
     let one = widthed two.before in
-    omega (arith, described_room _ _ (sound (counted one.before)), two.if2.taken)
+    omega (arith, described_room _ _ (sound (counted one.before)), two.if-model-description.true)
 
-same_length : tie.Need-same-length
+same_length : tie.Need-shape_of-widths-then-model-description
 same_length c = search rules
 
-same_length_2 : tie.Need-same-length-2
+same_length_2 : tie.Need-shape_of-model-then-model-description
 same_length_2 c = search rules
 
-returns : tie.Need-returns
+returns : tie.Need-returns-then-model-description
 returns c =
     let floats = done c in
     let sizes = taken floats.before in
     let two = roomy sizes.before in
     let one = widthed two.before in
-    filled _ _ _ _ (sound (counted one.before)) _ _ one.if1.taken two.if2.taken sizes.take-sizes.ensures
-    floats.take-floats.ensures
+    filled _ _ _ _ (sound (counted one.before)) _ _ one.if-widths-description.true two.if-model-description.true sizes.take_sizes.ensures
+    floats.take_floats.ensures
 
-returns_2 : tie.Need-returns-2
+returns_2 : tie.Need-returns-in-Refused
 returns_2 c =
-    unpack_refused _ _ _ _ (sym c.before.before.before.describe.ensures ∙ c.before.described.given.1)
+    unpack_refused _ _ _ _ (sym c.describe-described.ensures ∙ c.in-Refused.is)
 
-returns_3 : tie.Need-returns-3
+returns_3 : tie.Need-returns-else-model-description
 returns_3 c =
     let one = widthed c.before in
-    other_model _ _ _ _ (sound (counted one.before)) c.if2.false
+    other_model _ _ _ _ (sound (counted one.before)) c.if-model-description.false
 
-returns_4 : tie.Need-returns-4
-returns_4 c = other_widths _ _ _ _ (sound (counted c.before)) c.if1.false
+returns_4 : tie.Need-returns-else-widths-description
+returns_4 c = other_widths _ _ _ _ (sound (counted c.before)) c.if-widths-description.false
 
 pub unpack_spec : {M : Type 1} → statement M
 unpack_spec =

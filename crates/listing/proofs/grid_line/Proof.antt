@@ -9,43 +9,40 @@ use Rattle.listing.proofs.grid_line.Statement.{statement}
 use Rattle.listing.proofs.grid_line.Tie as tie
 
 -- from each piece of the line to the one before it
-abbrev start : tie.After-append → tie.Start
-start c = c.before.before.before.before
+abbrev start : tie.After-append-labelled → tie.Start
+start c = c.before.before.before.before.before
 
-abbrev label : tie.After-append-number → tie.After-append
+abbrev label : tie.After-append_number-counted → tie.After-append-labelled
 label c = c.before.before.before.before
 
-abbrev number : tie.After-append-pattern → tie.After-append-number
+abbrev number : tie.After-append_pattern-lower → tie.After-append_number-counted
 number c = c.before.before.before.before.before
 
-abbrev lower : tie.After-append-pattern2 → tie.After-append-pattern
+abbrev lower : tie.After-append_pattern → tie.After-append_pattern-lower
 lower c = c.before.before.before.before.before
 
-ends : (c : tie.After-append-number) → FiniteEnds (start (label c)).args.grid
+ends : (c : tie.After-append_number-counted) → FiniteEnds (start (label c)).args.grid
 ends c = (start (label c)).requires.1
 
-slice_aggregate_append : tie.Need-slice-aggregate-append
-slice_aggregate_append c = search rules
-
-append_requires : tie.Need-append-requires
+append_requires : tie.Need-append-labelled-requires
 append_requires c κs = search rules
 
-append_number_requires : tie.Need-append-number-requires
+append_number_requires : tie.Need-append_number-counted-requires
 append_number_requires c κs = search rules
 
-float_to_bits_append_pattern : tie.Need-float-to-bits-append-pattern
+float_to_bits_append_pattern : tie.Need-float_to_bits-grid
 float_to_bits_append_pattern c = finite_number _ (is_true _ (ends c.before.before.before.before).lo)
 
-append_pattern_requires : tie.Need-append-pattern-requires
+append_pattern_requires : tie.Need-append_pattern-lower-requires
 append_pattern_requires c κs = search rules
 
-float_to_bits_append_pattern_2 : tie.Need-float-to-bits-append-pattern-2
+float_to_bits_append_pattern_2 : tie.Need-float_to_bits-grid-2
 float_to_bits_append_pattern_2 c = finite_number _ (is_true _ (ends (number c.before.before.before.before)).hi)
 
-append_pattern_requires_2 : tie.Need-append-pattern-requires-2
+append_pattern_requires_2 : tie.Need-append_pattern-requires
 append_pattern_requires_2 c κs = search rules
 
-same_length : tie.Need-same-length
+same_length : tie.Need-shape_of-out
 same_length c = search rules
 
 returns : tie.Need-returns
@@ -54,15 +51,14 @@ returns c =
     let upper = c.before.before in
     let first = lower upper in
     let counted = number first in
-    both_within (exact (label counted).append.ensures)
-    (both_within counted.append-number.ensures
-    (both_within first.append-pattern.ensures upper.append-pattern2.ensures))
+    both_within (exact (label counted).append-labelled.ensures)
+    (both_within counted.append_number-counted.ensures
+    (both_within first.append_pattern-lower.ensures upper.append_pattern.ensures))
 
 pub grid_line_spec : {M : Type 1} → statement M
 grid_line_spec =
     tie.close
     (tie.spec
-    slice_aggregate_append
     append_requires
     append_number_requires
     float_to_bits_append_pattern

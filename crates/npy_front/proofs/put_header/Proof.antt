@@ -8,52 +8,46 @@ use Rattle.npy_front.proofs.put_header.Statement.{statement}
 use Rattle.npy_front.proofs.put_header.Tie as tie
 
 -- ---- from each piece to the one before it: only these lines know how many places lie between
-abbrev start : tie.After-append → tie.Start
-start c = c.before.before.before.before
+abbrev start : tie.After-append-text_at → tie.Start
+start c = c.before.before.before.before.before
 
-abbrev framed : tie.After-append-dictionary → tie.After-append
+abbrev framed : tie.After-append_dictionary-padding_at → tie.After-append-text_at
 framed c = c.before.before.before.before
 
-abbrev texted : tie.After-append-spaces → tie.After-append-dictionary
+abbrev texted : tie.After-append_spaces-newline_at → tie.After-append_dictionary-padding_at
 texted c = c.before.before.before.before
 
-abbrev spaced : tie.After-append2 → tie.After-append-spaces
-spaced c = c.before.before.before.before.before
+abbrev spaced : tie.After-append → tie.After-append_spaces-newline_at
+spaced c = c.before.before.before.before.before.before
 
 -- the text has 62 to 77 bytes
-few : (c : tie.After-append-dictionary) → let a = (start (framed c)).args in Fits a.first a.second a.third
+few : (c : tie.After-append_dictionary-padding_at) → let a = (start (framed c)).args in Fits a.first a.second a.third
 few c = let p = (start (framed c)).requires in fits _ _ _ p.1 p.2 p.3
 
-short : (c : tie.After-append-dictionary) → c.append-dictionary.result ≤ 127
-short c = omega (arith, (few c).few, c.append-dictionary.ensures.whole.place, (framed c).append.ensures.place)
+short : (c : tie.After-append_dictionary-padding_at) → c.append_dictionary-padding_at.result ≤ 127
+short c = omega (arith, (few c).few, c.append_dictionary-padding_at.ensures.whole.place, (framed c).append-text_at.ensures.place)
 
 -- ---- the needs
-slice_aggregate_append : tie.Need-slice-aggregate-append
-slice_aggregate_append c = search rules
-
-append_requires : tie.Need-append-requires
+append_requires : tie.Need-append-text_at-requires
 append_requires c κs = search rules
 
-append_dictionary_requires : tie.Need-append-dictionary-requires
+append_dictionary_requires : tie.Need-append_dictionary-padding_at-requires
 append_dictionary_requires c κs = search rules
 
-sub_append_spaces : tie.Need-overflow-sub-append-spaces
+sub_append_spaces : tie.Need-overflow_sub-append_spaces
 sub_append_spaces c = search rules
 
-append_spaces_requires : tie.Need-append-spaces-requires
+append_spaces_requires : tie.Need-append_spaces-newline_at-requires
 append_spaces_requires c κs =
     let at = c.before.before.before in
     (omega (arith, short at), omega arith)
 
-slice_aggregate_append_2 : tie.Need-slice-aggregate-append-2
-slice_aggregate_append_2 c = search rules
-
-append_requires_2 : tie.Need-append-requires-2
+append_requires_2 : tie.Need-append-requires
 append_requires_2 c κs =
     let at = c.before.before.before.before in
-    omega (arith, spaces_end (omega (arith, short (texted at))) at.append-spaces.ensures)
+    omega (arith, spaces_end (omega (arith, short (texted at.before))) at.append_spaces-newline_at.ensures)
 
-same_length : tie.Need-same-length
+same_length : tie.Need-shape_of-file
 same_length c = search rules
 
 returns : tie.Need-returns
@@ -61,19 +55,17 @@ returns c =
     let ended = c.before.before in
     let padded = spaced ended in
     let text = texted padded in
-    pieces _ _ _ (few text) (framed text).append.ensures text.append-dictionary.ensures.whole
-    padded.append-spaces.ensures ended.append2.ensures
+    pieces _ _ _ (few text) (framed text).append-text_at.ensures text.append_dictionary-padding_at.ensures.whole
+    padded.append_spaces-newline_at.ensures ended.append.ensures
 
 pub put_header_spec : {M : Type 1} → statement M
 put_header_spec =
     tie.close
     (tie.spec
-    slice_aggregate_append
     append_requires
     append_dictionary_requires
     sub_append_spaces
     append_spaces_requires
-    slice_aggregate_append_2
     append_requires_2
     same_length
     returns)

@@ -4,10 +4,10 @@ use borrow.Author.Rules.{rules}
 use Rattle.npy_reading.proofs.first_fault.Statement.{statement}
 use Rattle.npy_reading.proofs.first_fault.Tie as tie
 
-returns : tie.Need-returns
-returns c = then_first _ _ c.if1.true
+returns : tie.Need-returns-then-earlier-ne0
+returns c = then_first _ _ c.if-earlier-ne0.true
 
-returns_2 : tie.Need-returns-2
+returns_2 : tie.Need-returns
 returns_2 c = search rules
 
 pub first_fault_spec : {M : Type 1} → statement M

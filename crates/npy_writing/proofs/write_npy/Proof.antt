@@ -10,59 +10,58 @@ use Rattle.npy_writing.proofs.write_npy.Statement.{statement}
 use Rattle.npy_writing.proofs.write_npy.Tie as tie
 
 -- ---- from place to place: only these lines know how many places lie between
-abbrev entry : tie.After-check-model → tie.Start
+abbrev entry : tie.After-check_model-checked → tie.Start
 entry c = c.before.before.before.before
 
-abbrev checked : tie.After-enum-told → tie.After-check-model
-checked c = c.before.before
+abbrev checked : tie.In-Sound → tie.After-check_model-checked
+checked c = c.before
 
-abbrev allowed : tie.After-write-sound → tie.After-enum-told
+abbrev allowed : tie.After-write_sound-number → tie.In-Sound
 allowed c = c.before.before
 
-abbrev written : tie.After-slice-known2 → tie.After-write-sound
+abbrev written : tie.After-slice_known-in-Sound-1 → tie.After-write_sound-number
 written c = c.before.before
 
 -- ---- past the checks up to 8
-past : (c : tie.After-enum-told)
+past : (c : tie.In-Sound)
     → let a = (entry (checked c)).args in up_to8 a.widths.now a.grid (length a.model.now) ≡ 0
-past c = passed _ _ _ _ (sym (checked c).check-model.ensures ∙ c.enum_told.given.1)
+past c = passed _ _ _ _ (sym (checked c).check_model-checked.ensures ∙ c.in-Sound.is)
 
 -- ---- the needs
-check_model_requires : tie.Need-check-model-requires
+check_model_requires : tie.Need-check_model-checked-requires
 check_model_requires c κs = search rules
 
-enum_known_checked : tie.Need-enum-known-checked
+enum_known_checked : tie.Need-enum_known-checked
 enum_known_checked c = search rules
 
-enum_told : tie.Need-enum-told
+enum_told : tie.Need-enum_told-1
 enum_told c = search rules
 
-write_sound_requires : tie.Need-write-sound-requires
+write_sound_requires : tie.Need-write_sound-number-requires
 write_sound_requires c κs = ready _ _ _ (past c.before)
 
-same_length : tie.Need-same-length
+same_length : tie.Need-shape_of-file-then-number-eq0
 same_length c = search rules
 
-returns : tie.Need-returns
+returns : tie.Need-returns-then-number-eq0
 returns c =
     let at = written c.before in
-    let d = at.write-sound.ensures in
-    told _ _ _ _ _ (done _ _ _ _ _ _ _ (past (allowed at)) _ _ d.refusal d.file c.if1.true)
+    let d = at.write_sound-number.ensures in
+    told _ _ _ _ _ (done _ _ _ _ _ _ _ (past (allowed at)) _ _ d.refusal d.file c.if-number-eq0.true)
 
-returns_2 : tie.Need-returns-2
+returns_2 : tie.Need-returns-in-Refused
 returns_2 c =
-    let at = c.before in
     told _ _ _ _ _
-    (refused_to_8 _ _ _ _ _ _ _ _ (sym at.before.before.check-model.ensures ∙ at.checked.given.1))
+    (refused_to_8 _ _ _ _ _ _ _ _ (sym c.check_model-checked.ensures ∙ c.in-Refused.is))
 
-same_length_2 : tie.Need-same-length-2
+same_length_2 : tie.Need-shape_of-file
 same_length_2 c = search rules
 
-returns_3 : tie.Need-returns-3
+returns_3 : tie.Need-returns-else-number-eq0
 returns_3 c =
     let at = written c.before in
-    let d = at.write-sound.ensures in
-    told _ _ _ _ _ (stopped _ _ _ _ _ _ _ (past (allowed at)) _ _ d.refusal d.file c.if1.false)
+    let d = at.write_sound-number.ensures in
+    told _ _ _ _ _ (stopped _ _ _ _ _ _ _ (past (allowed at)) _ _ d.refusal d.file c.if-number-eq0.false)
 
 pub write_npy_spec : {M : Type 1} → statement M
 write_npy_spec =

@@ -14,96 +14,95 @@ use Rattle.npy_writing.proofs.write_sound.Statement.{statement}
 use Rattle.npy_writing.proofs.write_sound.Tie as tie
 
 -- ---- from place to place: only these lines know how many places lie between
-abbrev entry : tie.Else1 → tie.Start
+abbrev entry : tie.Else-layer-widths → tie.Start
 entry c = c.before.before.before.before
 
-abbrev found : tie.After-struct-known2 → tie.After-find-layer
+abbrev found : tie.After-struct_known-2-1 → tie.After-find_layer-found
 found c = c.before.before
 
-abbrev whole : tie.After-all-finite → tie.Else2
+abbrev whole : tie.After-all_finite → tie.Else-file-edges
 whole c = c.before
 
-abbrev lent : tie.After-put-file-arg → tie.Else3
+abbrev lent : tie.After-put_file-arg-1 → tie.Else-not-all_finite
 lent c = c.before
 
-abbrev put : tie.After-slice-known2 → tie.After-put-file
+abbrev put : tie.After-slice_known-2-1 → tie.After-put_file
 put c = c.before.before
 
 -- ---- what is known of the layer, past 10, and past 11
-layer_small : (c : tie.After-find-layer)
-    → let a = (entry c.before).args in SmallLayer a.grid a.model.now c.find-layer.result
-layer_small c = small_layer (entry c.before).requires c.before.if1.false c.find-layer.ensures
+layer_small : (c : tie.After-find_layer-found)
+    → let a = (entry c.before).args in SmallLayer a.grid a.model.now c.find_layer-found.result
+layer_small c = small_layer (entry c.before).requires c.if-layer-widths.false c.find_layer-found.ensures
 
-roomy : (c : tie.Else2)
+roomy : (c : tie.Else-file-edges)
     → let a = (entry (found c.before).before).args in
     length a.file.now ≡ file_length a.widths.now a.grid a.layer
-roomy c = c.if2.false ∙ file_length_lem (found c.before).find-layer.ensures
+roomy c = c.if-file-edges.false ∙ file_length_lem (found c.before).find_layer-found.ensures
 
-writable : (c : tie.Else3)
+writable : (c : tie.Else-not-all_finite)
     → let at = found (whole c.before).before in
     let a = (entry at.before).args in
-    Writable a.widths.now a.grid a.model.now a.layer at.find-layer.result a.file.now
+    Writable a.widths.now a.grid a.model.now a.layer at.find_layer-found.result a.file.now
 writable c =
     let room = whole c.before in
     let at = found room.before in
     record {
       ready = (entry at.before).requires;
-      there = at.before.if1.left;
-      stands = at.find-layer.ensures;
-      sound = sym c.before.all-finite.ensures ∙ not-false _ c.if3.false;
+      there = at.if-layer-widths.false;
+      stands = at.find_layer-found.ensures;
+      sound = sym c.all_finite.ensures ∙ not-false _ c.if-not-all_finite.false-raw;
       room = roomy room;
     }
 
 -- ---- the needs
-sub_if1 : tie.Need-overflow-sub-if1
+sub_if1 : tie.Need-overflow_sub-widths
 sub_if1 c = search rules
 
-returns : tie.Need-returns
-returns c = no_layer _ _ _ _ _ c.if1.true
+returns : tie.Need-returns-then-layer-widths
+returns c = no_layer _ _ _ _ _ c.if-layer-widths.true
 
-find_layer_requires : tie.Need-find-layer-requires
+find_layer_requires : tie.Need-find_layer-found-requires
 find_layer_requires c κs = search rules
 
-mul_edges : tie.Need-overflow-mul-edges
+mul_edges : tie.Need-overflow_mul-edges
 mul_edges c = omega (arith, (layer_small c.before).edges)
 
-add_if2 : tie.Need-overflow-add-if2
+add_if2 : tie.Need-overflow_add-grid
 add_if2 c = search rules
 
-mul_if2 : tie.Need-overflow-mul-if2
+mul_if2 : tie.Need-overflow_mul-grid
 mul_if2 c = search rules
 
-mul_if2_2 : tie.Need-overflow-mul-if2-2
+mul_if2_2 : tie.Need-overflow_mul-edges-2
 mul_if2_2 c = omega (arith, (layer_small (found c)).words)
 
-add_if2_2 : tie.Need-overflow-add-if2-2
+add_if2_2 : tie.Need-overflow_add-edges
 add_if2_2 c = omega (arith, (layer_small (found c)).words)
 
-returns_2 : tie.Need-returns-2
+returns_2 : tie.Need-returns-then-file-edges
 returns_2 c =
-    let at = found c.before in
-    wrong_length _ _ _ _ _ at.before.if1.left
-    (λ e. c.if2.true (e ∙ sym (file_length_lem at.find-layer.ensures)))
+    wrong_length _ _ _ _ _ c.if-layer-widths.false
+    (λ e. c.if-file-edges.true (e ∙ sym (file_length_lem c.find_layer-found.ensures)))
 
-all_finite_requires : tie.Need-all-finite-requires
+all_finite_requires : tie.Need-all_finite-requires
 all_finite_requires c κs = search rules
 
-returns_3 : tie.Need-returns-3
+returns_3 : tie.Need-returns-then-not-all_finite
 returns_3 c =
     let room = whole c.before in
-    wild_model _ _ _ _ _ (found room.before).before.if1.false (roomy room)
-    (sym c.before.all-finite.ensures ∙ not-true _ c.if3.true)
+    wild_model _ _ _ _ _ (found room.before).if-layer-widths.false (roomy room)
+    (sym c.all_finite.ensures ∙ not-true _ c.if-not-all_finite.true-raw)
 
-put_file_requires : tie.Need-put-file-requires
+put_file_requires : tie.Need-put_file-requires
 put_file_requires c κs = here (writable (lent c))
 
-same_length : tie.Need-same-length
+same_length : tie.Need-shape_of-file
 same_length c = search rules
 
-returns_4 : tie.Need-returns-4
+returns_4 : tie.Need-returns
 returns_4 c =
     let w = writable (lent (put c).before) in
-    all_written _ _ _ _ _ w.there _ w.room w.sound (told w (put c).put-file.ensures)
+    all_written _ _ _ _ _ w.there _ w.room w.sound (told w (put c).put_file.ensures)
 
 pub write_sound_spec : {M : Type 1} → statement M
 write_sound_spec =

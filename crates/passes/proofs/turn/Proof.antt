@@ -18,7 +18,7 @@ use Rattle.passes.proofs.turn.Statement.{statement}
 use Rattle.passes.proofs.turn.Tie as tie
 
 -- from the branch to the entry
-abbrev entry : tie.After-slice-known2 → tie.Start
+abbrev entry : tie.After-slice_known-2-1 → tie.Start
 entry c = c.before.before.before
 
 -- the layer's parameters, for as many inputs as the part that is read has
@@ -26,93 +26,93 @@ as_read : {g : Grid} {ps : List Float} {w n : ℕ} (s : List Float) → w ≤ le
     → Parameters g ps (length (take (w - 0) (drop 0 s))) n
 as_read {w = w} s h p = rw (front_length w s h) p
 
-sub_layer_forward : tie.Need-overflow-sub-layer-forward
+sub_layer_forward : tie.Need-slice_bounds-layer_forward-count
 sub_layer_forward c = search rules
 
-part_layer_forward_start : tie.Need-slice-bounds-layer-forward-start
+part_layer_forward_start : tie.Need-slice_bounds-layer_forward-start
 part_layer_forward_start c = search rules
 
-part_layer_forward_end : tie.Need-slice-bounds-layer-forward-end
+part_layer_forward_end : tie.Need-slice_bounds-layer_forward-end
 part_layer_forward_end c = search rules
 
-layer_forward_requires : tie.Need-layer-forward-requires
+layer_forward_requires : tie.Need-layer_forward-requires
 layer_forward_requires c κs =
-    let p = (entry c.before.before.before.before).requires in
+    let p = (entry c.before.before.before).requires in
     (p.0, p.1, record { layer = as_read _ p.2.from_second p.2.layer; outputs = p.2.to_first })
 
-sub_all_finite : tie.Need-overflow-sub-all-finite
+sub_all_finite : tie.Need-slice_bounds-all_finite-count
 sub_all_finite c = search rules
 
-part_all_finite_start : tie.Need-slice-bounds-all-finite-start
+part_all_finite_start : tie.Need-slice_bounds-all_finite-start
 part_all_finite_start c = search rules
 
-part_all_finite_end : tie.Need-slice-bounds-all-finite-end
+part_all_finite_end : tie.Need-slice_bounds-all_finite-end
 part_all_finite_end c = search rules
 
-all_finite_requires : tie.Need-all-finite-requires
+all_finite_requires : tie.Need-all_finite-requires
 all_finite_requires c κs = search rules
 
-sub_layer_forward_2 : tie.Need-overflow-sub-layer-forward-2
+sub_layer_forward_2 : tie.Need-slice_bounds-layer_forward-count-else-l-eq0
 sub_layer_forward_2 c = search rules
 
-part_layer_forward_start_2 : tie.Need-slice-bounds-layer-forward-start-2
+part_layer_forward_start_2 : tie.Need-slice_bounds-layer_forward-start-else-l-eq0
 part_layer_forward_start_2 c = search rules
 
-part_layer_forward_end_2 : tie.Need-slice-bounds-layer-forward-end-2
+part_layer_forward_end_2 : tie.Need-slice_bounds-layer_forward-end-else-l-eq0
 part_layer_forward_end_2 c = search rules
 
-layer_forward_requires_2 : tie.Need-layer-forward-requires-2
+layer_forward_requires_2 : tie.Need-layer_forward-requires-else-l-eq0
 layer_forward_requires_2 c κs =
-    let p = (entry c.before.before.before.before).requires in
+    let p = (entry c.before.before.before).requires in
     (p.0, p.1, record { layer = as_read _ p.2.from_first p.2.layer; outputs = p.2.to_second })
 
-sub_all_finite_2 : tie.Need-overflow-sub-all-finite-2
+sub_all_finite_2 : tie.Need-slice_bounds-all_finite-count-else-l-eq0
 sub_all_finite_2 c = search rules
 
-part_all_finite_start_2 : tie.Need-slice-bounds-all-finite-start-2
+part_all_finite_start_2 : tie.Need-slice_bounds-all_finite-start-else-l-eq0
 part_all_finite_start_2 c = search rules
 
-part_all_finite_end_2 : tie.Need-slice-bounds-all-finite-end-2
+part_all_finite_end_2 : tie.Need-slice_bounds-all_finite-end-else-l-eq0
 part_all_finite_end_2 c = search rules
 
-all_finite_requires_2 : tie.Need-all-finite-requires-2
+all_finite_requires_2 : tie.Need-all_finite-requires-else-l-eq0
 all_finite_requires_2 c κs = search rules
 
-same_length : tie.Need-same-length
+same_length : tie.Need-shape_of-first-then-l-eq0
 same_length c = search rules
 
-same_length_2 : tie.Need-same-length-2
+same_length_2 : tie.Need-shape_of-second-then-l-eq0
 same_length_2 c = search rules
 
-returns : tie.Need-returns
+returns : tie.Need-returns-then-l-eq0
 returns c =
-    let at-layer-forward = c.before.before.before.before.before in
-    let at-if1 = at-layer-forward.before.before.before.before in
-    let start = entry at-if1.before in
-    let e = eq-eqb _ _ at-if1.if1.true in
+    let at-layer-forward = c in
+    let at-if1 = at-layer-forward in
+    let start = at-if1 in
+    let e = eq-eqb _ _ at-if1.if-l-eq0.true in
     let s = start.args in
     let B = basis_of s.mesh.grid in
     let a' = front_in B s.params.now s.w s.n s.second.now s.first.now _
-    at-layer-forward.layer-forward.ensures in
-    record { finite = c.all-finite.ensures ∙ ap all_finite (fronted B _ _ _ _ _ a') ∙ rw e; first = rw e a'; second = rw e }
+    at-layer-forward.layer_forward.ensures in
+    record { finite = c.all_finite.ensures ∙ ap all_finite (fronted B _ _ _ _ _ a') ∙ rw e; first = rw e a'; second = rw e }
 
-same_length_3 : tie.Need-same-length-3
+same_length_3 : tie.Need-shape_of-first-else-l-eq0
 same_length_3 c = search rules
 
-same_length_4 : tie.Need-same-length-4
+same_length_4 : tie.Need-shape_of-second-else-l-eq0
 same_length_4 c = search rules
 
-returns_2 : tie.Need-returns-2
+returns_2 : tie.Need-returns-else-l-eq0
 returns_2 c =
-    let at-layer-forward2 = c.before.before.before.before.before in
-    let at-if1 = at-layer-forward2.before.before.before.before in
-    let start = entry at-if1.before in
-    let e = ne_eqb _ _ at-if1.if1.false in
+    let at-layer-forward2 = c in
+    let at-if1 = at-layer-forward2 in
+    let start = at-if1 in
+    let e = ne_eqb _ _ at-if1.if-l-eq0.false in
     let s = start.args in
     let B = basis_of s.mesh.grid in
     let b' = front_in B s.params.now s.w s.n s.first.now s.second.now _
-    at-layer-forward2.layer-forward2.ensures in
-    record { finite = c.all-finite2.ensures ∙ ap all_finite (fronted B _ _ _ _ _ b') ∙ rw e; first = rw e; second = rw e b' }
+    at-layer-forward2.layer_forward-else-l-eq0.ensures in
+    record { finite = c.all_finite-else-l-eq0.ensures ∙ ap all_finite (fronted B _ _ _ _ _ b') ∙ rw e; first = rw e; second = rw e b' }
 
 pub turn_spec : {M : Type 1} → statement M
 turn_spec =

@@ -149,7 +149,7 @@ returns_3 c =
 mul_words : tie.Need-offset_bounds-words-count invariant-loop decreases-loop
 mul_words c =
     let room = roomy (ended c.before) in
-    let lent = (start (head room.before)).good in
+    let lent = (start (head room.before)).well_formed in
     omega (arith, free room, (spaced room.before).taken.same)
 
 slice_write_words : tie.Need-bounds-words-count invariant-loop decreases-loop

@@ -32,10 +32,10 @@ abbrev turn : tie.After-add_input-arg-1 invariant-loop decreases-loop → tie.In
 turn c = c.before.before
 
 -- ---- what is known at the loop's head: clearing has kept the outputs' length
-kept : (c : tie.At-loop-j invariant-loop decreases-loop) → length (cleared c).clear.new.0 ≡ length (start c).args.outputs.now
-kept c = (cleared c).clear.auto.0
+kept : (c : tie.At-loop-j invariant-loop decreases-loop) → length (cleared c).clear.new.xs ≡ length (start c).args.outputs.now
+kept c = (cleared c).clear.auto.xs
 
-room : (c : tie.At-loop-j invariant-loop decreases-loop) → (start c).args.n ≤ length (cleared c).clear.new.0
+room : (c : tie.At-loop-j invariant-loop decreases-loop) → (start c).args.n ≤ length (cleared c).clear.new.xs
 room c = omega (arith, (start c).requires.2.outputs, kept c)
 
 -- ---- the needs

@@ -12,39 +12,37 @@ use Rattle.fast_gradients.proofs.Clean.{tested}
 use Rattle.fast_gradients.proofs.zeros.no_minus_zero.Statement.{statement}
 use Rattle.fast_gradients.proofs.zeros.no_minus_zero.Tie as tie
 
-abbrev invariant-loop : tie.invariant-loop
+abbrev invariant-loop : tie.invariant-loop-i
 invariant-loop numbers clean₀ i₀ i-end clean i = (i ≤ length numbers) × (clean ≡ all_to (not_minus_zero numbers) i)
 
-abbrev decreases-loop : tie.decreases-loop
+abbrev decreases-loop : tie.decreases-loop-i
 decreases-loop numbers clean₀ i₀ i-end clean i = length numbers - i
 
-loop_holds : tie.Need-loop-init invariant-loop decreases-loop
+loop_holds : tie.Need-loop-i-init invariant-loop decreases-loop
 loop_holds c = (omega arith, sym (all_none _))
 
-mul_is_minus_zero : tie.Need-overflow-mul-is-minus-zero invariant-loop decreases-loop
+mul_is_minus_zero : tie.Need-offset_bounds-numbers-i invariant-loop decreases-loop
 mul_is_minus_zero c = omega arith
 
-shared_slice_read_is_minus_zero : tie.Need-shared-slice-read-is-minus-zero invariant-loop decreases-loop
+shared_slice_read_is_minus_zero : tie.Need-bounds-numbers-i invariant-loop decreases-loop
 shared_slice_read_is_minus_zero c = omega arith
 
-is_minus_zero_requires : tie.Need-is-minus-zero-requires invariant-loop decreases-loop
+is_minus_zero_requires : tie.Need-is_minus_zero-requires invariant-loop decreases-loop
 is_minus_zero_requires c κs = search rules
 
-add_i : tie.Need-overflow-add-i invariant-loop decreases-loop
+add_i : tie.Need-overflow_step-i invariant-loop decreases-loop
 add_i c = omega arith
 
-loop_less : tie.Need-loop-smaller invariant-loop decreases-loop
+loop_less : tie.Need-loop-i-smaller invariant-loop decreases-loop
 loop_less c = omega arith
 
-loop_again : tie.Need-loop-preserved invariant-loop decreases-loop
+loop_again : tie.Need-loop-i-preserved invariant-loop decreases-loop
 loop_again c =
-    let head = c.before.before.before in
-    (omega arith, all_also _ _ _ _ head.loop.invariant.1 (ap not c.is-minus-zero.ensures))
+    (omega arith, all_also _ _ _ _ c.loop-i.invariant.1 (ap not c.is_minus_zero.ensures))
 
 returns : tie.Need-returns invariant-loop decreases-loop
 returns c =
-    let head = c.before in
-    tested _ _ (head.loop.invariant.1 ∙ ap (all_to _) (omega arith)) (λ k. head.before.shared-slice-known.given k)
+    tested _ _ (c.loop-i.invariant.1 ∙ ap (all_to _) (omega arith)) (λ k. c.shared_slice_known-1.given k)
 
 pub no_minus_zero_spec : {M : Type 1} → statement M
 no_minus_zero_spec =

@@ -21,9 +21,6 @@ past_token_requires c κs = search rules
 end_of_requires : tie.Need-end_of-newline-requires
 end_of_requires c κs = search rules
 
-slice_aggregate_spells : tie.Need-slice-aggregate-spells
-slice_aggregate_spells c = search rules
-
 spells_requires : tie.Need-spells-requires
 spells_requires c κs = search rules
 

@@ -18,9 +18,6 @@ returns c = λ sizes s w. descr_again _ sizes s _ w _ _ c.failed.ensures c.if-fo
 string_requires : tie.Need-string-value-requires
 string_requires c κs = search rules
 
-slice_aggregate_spells : tie.Need-slice-aggregate-spells
-slice_aggregate_spells c = search rules
-
 spells_requires : tie.Need-spells-asked-requires
 spells_requires c κs = search rules
 

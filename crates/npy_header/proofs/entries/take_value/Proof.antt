@@ -20,9 +20,6 @@ no_order c = c.before.before.before.before
 abbrev no_order' : tie.Else-spells-3 → tie.Else-spells-2
 no_order' c = c.before.before.before.before
 
-slice_aggregate_spells : tie.Need-slice-aggregate-spells
-slice_aggregate_spells c = search rules
-
 spells_requires : tie.Need-spells-requires
 spells_requires c κs = search rules
 
@@ -33,9 +30,6 @@ returns : tie.Need-returns-then-spells
 unfolding with_value descr_word
 returns c =
     λ s w. rw (sym c.spells.ensures ∙ c.if-spells.true) (c.take_descr.ensures _ s w)
-
-slice_aggregate_spells_2 : tie.Need-slice-aggregate-spells-2
-slice_aggregate_spells_2 c = search rules
 
 spells_requires_2 : tie.Need-spells-requires-2
 spells_requires_2 c κs = search rules
@@ -51,9 +45,6 @@ returns_2 c =
     let first = no_descr test in
     rw (sym first.spells.ensures ∙ first.if-spells.false, sym test.spells-2.ensures ∙ test.if-spells-2.true)
     (c.take_order.ensures _ s w)
-
-slice_aggregate_spells_3 : tie.Need-slice-aggregate-spells-3
-slice_aggregate_spells_3 c = search rules
 
 spells_requires_3 : tie.Need-spells-requires-3
 spells_requires_3 c κs = search rules
@@ -96,8 +87,6 @@ pub take_value_spec : {M : Type 1} → statement M
 take_value_spec =
     tie.close
     (tie.spec
-    slice_aggregate_spells
-    slice_aggregate_spells_2
     spells_requires
     take_descr_requires
     returns

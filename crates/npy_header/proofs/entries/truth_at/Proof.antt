@@ -12,9 +12,6 @@ end_of_requires c κs = search rules
 stands_at_requires : tie.Need-stands_at-requires
 stands_at_requires c κs = search rules
 
-slice_aggregate_past_bytes : tie.Need-slice-aggregate-past-bytes
-slice_aggregate_past_bytes c = search rules
-
 past_bytes_requires : tie.Need-past_bytes-requires
 past_bytes_requires c κs = search rules
 
@@ -31,9 +28,6 @@ returns c =
         rest = c.past_bytes.ensures.rest ∙ ap (after_bytes true_word) here ∙ rw (← holds);
       };
     }
-
-slice_aggregate_past_bytes_2 : tie.Need-slice-aggregate-past-bytes-2
-slice_aggregate_past_bytes_2 c = search rules
 
 past_bytes_requires_2 : tie.Need-past_bytes-requires-2
 past_bytes_requires_2 c κs = search rules
@@ -56,7 +50,6 @@ pub truth_at_spec : {M : Type 1} → statement M
 truth_at_spec =
     tie.close
     (tie.spec
-    slice_aggregate_past_bytes
     end_of_requires
     stands_at_requires
     past_bytes_requires

@@ -9,9 +9,6 @@ use Rattle.npy_header.proofs.frame.is_framed.Tie as tie
 returns : tie.Need-returns-then-file-lt-TEXT_AT
 returns c = sym (too_short _ c.if-file-lt-TEXT_AT.true)
 
-slice_aggregate_spells : tie.Need-slice-aggregate-spells
-slice_aggregate_spells c = search rules
-
 spells_requires : tie.Need-spells-magic-requires
 spells_requires c κs = search rules
 

@@ -57,10 +57,10 @@ loop_holds : tie.Need-loop-o-init invariant-loop decreases-loop
 loop_holds c = (omega arith, marked_first _ _)
 
 mul_at : tie.Need-overflow_mul-at invariant-loop decreases-loop
-mul_at c = omega (arith, inside c, size (head c), (entry (head c)).good)
+mul_at c = omega (arith, inside c, size (head c), (entry (head c)).well_formed)
 
 add_at : tie.Need-overflow_add-at invariant-loop decreases-loop
-add_at c = omega (arith, inside c, size (head c), (entry (head c)).good)
+add_at c = omega (arith, inside c, size (head c), (entry (head c)).well_formed)
 
 sub_mark_edge : tie.Need-slice_bounds-mark_edge-count invariant-loop decreases-loop
 sub_mark_edge c = omega (arith, inside c.before)
@@ -85,7 +85,7 @@ loop_less c = omega arith
 loop_again : tie.Need-loop-o-preserved invariant-loop decreases-loop
 loop_again c =
     let m = marked c in
-    let t = m.before.before in
+    let t = m.before.before.before in
     let h = head t in (
       omega arith,
       one_output (entry h).args.from (entry h).args.row (tests h) (rw edge_length (entry h).requires.2) h.loop-o.o _

@@ -47,10 +47,10 @@ loop_holds : tie.Need-loop-r-init invariant-loop decreases-loop
 loop_holds c = (omega arith, marked_first _ _)
 
 mul_p : tie.Need-overflow_mul-p invariant-loop decreases-loop
-mul_p c = omega (arith, inside c, size (head c), (entry (head c)).good)
+mul_p c = omega (arith, inside c, size (head c), (entry (head c)).well_formed)
 
 add_p : tie.Need-overflow_add-p invariant-loop decreases-loop
-add_p c = omega (arith, inside c, size (head c), (entry (head c)).good)
+add_p c = omega (arith, inside c, size (head c), (entry (head c)).well_formed)
 
 slice_read_mark : tie.Need-bounds-map-p invariant-loop decreases-loop
 slice_read_mark c = inside c.before

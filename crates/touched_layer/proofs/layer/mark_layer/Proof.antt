@@ -67,20 +67,20 @@ add_stride : tie.Need-overflow_add-stride invariant-loop decreases-loop
 add_stride c = omega arith
 
 mul_row : tie.Need-overflow_mul-row invariant-loop decreases-loop
-mul_row c = let s = lent c in omega (arith, row_in s, s.good)
+mul_row c = let s = lent c in omega (arith, row_in s, s.well_formed)
 
 loop_holds : tie.Need-loop-i-init invariant-loop decreases-loop
 unfolding flat_to
 loop_holds c = (omega arith, none_in_rows 0 _ (lent c).args.n _)
 
 mul_mark_input : tie.Need-offset_bounds-inputs-i invariant-loop decreases-loop
-mul_mark_input c = let s = entry (head c) in omega (arith, inside c, row_in s, s.good)
+mul_mark_input c = let s = entry (head c) in omega (arith, inside c, row_in s, s.well_formed)
 
 shared_slice_read_mark_input : tie.Need-bounds-inputs-i invariant-loop decreases-loop
 shared_slice_read_mark_input c = omega arith
 
 mul_mark_input_2 : tie.Need-overflow_mul-i invariant-loop decreases-loop
-mul_mark_input_2 c = let t = c.before in let s = entry (head t) in omega (arith, inside t, row_in s, s.good)
+mul_mark_input_2 c = let t = c.before in let s = entry (head t) in omega (arith, inside t, row_in s, s.well_formed)
 
 mark_input_requires : tie.Need-mark_input-requires invariant-loop decreases-loop
 mark_input_requires c κs =

@@ -57,9 +57,8 @@ enum_known_described_2 c = search rules
 
 render_sound_requires : tie.Need-render_sound-requires
 render_sound_requires c κs =
-    let told = c.before.before in
-    let short = told.before.before.before in
-    (enough _ _ (sound told) _ short.if1.false (start short).requires, listable _ _ (sound told))
+    let told = c.before in
+    (enough _ _ (sound told) _ c.if-image-gt-MOST_BYTES.false c.requires, listable _ _ (sound told))
 
 same_length_2 : tie.Need-shape_of-out-in-Refused
 same_length_2 c = search rules
@@ -77,10 +76,9 @@ same_length_3 c = search rules
 
 returns_3 : tie.Need-returns-in-Sound
 returns_3 c =
-    let lines = c.before.before in
-    let told = lines.before.before.before in
-    let short = told.if-image-gt-MOST_BYTES.false in
-    retold lines.render_sound.ensures (list_sound _ _ short (sound told))
+    let told = c.before.before.before.before in
+    let short = c.if-image-gt-MOST_BYTES.false in
+    retold c.render_sound.ensures (list_sound _ _ short (sound told))
 
 pub render_spec : {M : Type 1} → statement M
 render_spec =

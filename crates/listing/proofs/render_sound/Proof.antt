@@ -23,7 +23,7 @@ layer_lines_requires : tie.Need-layer_lines-after_layers-requires
 layer_lines_requires c κs =
     let line = c.before.before.before in
     let given = (start line).requires in
-    (omega (arith, given.0, line.grid_line-after_grid.ensures.short, line.grid_line-after_grid.auto.0), given.1)
+    (omega (arith, given.0, line.grid_line-after_grid.ensures.short, line.grid_line-after_grid.auto.out), given.1)
 
 append_labelled_requires : tie.Need-append_labelled-requires
 append_labelled_requires c κs =
@@ -33,9 +33,9 @@ append_labelled_requires c κs =
       arith,
       (start line).requires.0,
       line.grid_line-after_grid.ensures.short,
-      line.grid_line-after_grid.auto.0,
+      line.grid_line-after_grid.auto.out,
       lines.layer_lines-after_layers.ensures.short,
-      lines.layer_lines-after_layers.auto.0,
+      lines.layer_lines-after_layers.auto.out,
     )
 
 same_length : tie.Need-shape_of-out

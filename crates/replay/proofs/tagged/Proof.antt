@@ -87,8 +87,7 @@ same_length c = c.loop-at.invariant.same
 
 returns : tie.Need-returns-then-rest-at-ne32 invariant-loop decreases-loop
 returns c =
-    let turn = c in
-    let none = taken_no_space turn.loop-at.invariant turn.loop-at-test.true c.if-rest-at-ne32.true in
+    let none = taken_no_space c.loop-at.invariant c.loop-at-test.true c.if-rest-at-ne32.true in
     malformed _ _ _ (none_read _ _ _ none)
 
 -- ---- no room
@@ -141,7 +140,7 @@ same_length_3 c = (spaced (roomy (ended c.before)).before).taken.same
 
 returns_3 : tie.Need-returns-in_default invariant-loop decreases-loop
 returns_3 c =
-    let word = c.before.before in
+    let word = c.before in
     let turn = spaced (roomy (ended word)).before in
     malformed _ _ _ (none_read _ _ _ (taken_other turn (behind word) c.in_default.is))
 
@@ -163,7 +162,7 @@ loop_less c = omega arith
 
 loop_again : tie.Need-loop-at-preserved invariant-loop decreases-loop
 loop_again c =
-    let word = c.before.before.before in
+    let word = c.before in
     let room = roomy (ended word) in
     taken_more (spaced room.before) (behind word) _ c.in-Number.is (free room)
 

@@ -128,14 +128,14 @@ add_edge_requires c κs =
     )
 
 add_o : tie.Need-overflow_step-o invariant-loop decreases-loop
-add_o c = let t = asked (turned c).before in omega (arith, t.loop-o-test.true, (start t.before).good)
+add_o c = let t = asked (turned c).before.before.before in omega (arith, t.loop-o-test.true, (start t.before).well_formed)
 
 loop_less : tie.Need-loop-o-smaller invariant-loop decreases-loop
 loop_less c = omega arith
 
 loop_again : tie.Need-loop-o-preserved invariant-loop decreases-loop
 loop_again c =
-    let t = asked (turned c).before in
+    let t = asked (turned c).before.before.before in
     let a = (start t.before).args in
     each_more _ t.loop-o.invariant t.loop-o-test.true (rw tab_length (omega (arith, known t)))
     (edge_turn (basis_of a.mesh.grid) a.params.now a.w a.i a.x a.ups.now _ _ _

@@ -9,23 +9,23 @@ use Rattle.loss.proofs.add_error.Statement.{statement}
 use Rattle.loss.proofs.add_error.Tie as tie
 
 -- the error is finite
-error : (c : tie.Else1) → finite (squared c.before.before.args.output c.before.before.args.target) ≡ true
-error c = sym c.before.is_finite.ensures ∙ not-false _ c.if1.false
+error : (c : tie.Else-not-is_finite) → finite (squared c.args.output c.args.target) ≡ true
+error c = sym c.is_finite.ensures ∙ not-false _ c.if-not-is_finite.false-raw
 
-is_finite_requires : tie.Need-is-finite-requires
+is_finite_requires : tie.Need-is_finite-requires
 is_finite_requires c κs = search rules
 
-returns : tie.Need-returns
-returns c = rw (sym c.before.is_finite.ensures ∙ not-true _ c.if1.true)
+returns : tie.Need-returns-then-not-is_finite
+returns c = rw (sym c.is_finite.ensures ∙ not-true _ c.if-not-is_finite.true-raw)
 
-is_finite_requires_2 : tie.Need-is-finite-requires-2
+is_finite_requires_2 : tie.Need-is_finite-requires-2
 is_finite_requires_2 c κs = search rules
 
-returns_2 : tie.Need-returns-2
-returns_2 c = rw (error c.before.before, sym c.before.is-finite2.ensures ∙ not-true _ c.if2.true)
+returns_2 : tie.Need-returns-then-not-is_finite-2
+returns_2 c = rw (error c.before.before, sym c.is_finite-2.ensures ∙ not-true _ c.if-not-is_finite-2.true-raw)
 
-returns_3 : tie.Need-returns-3
-returns_3 c = rw (error c.before.before, sym c.before.is-finite2.ensures ∙ not-false _ c.if2.false)
+returns_3 : tie.Need-returns
+returns_3 c = rw (error c.before.before, sym c.is_finite-2.ensures ∙ not-false _ c.if-not-is_finite-2.false-raw)
 
 pub add_error_spec : {M : Type 1} → statement M
 add_error_spec =

@@ -10,71 +10,70 @@ use Rattle.loss.proofs.mse_loss.Statement.{statement}
 use Rattle.loss.proofs.mse_loss.Tie as tie
 
 -- ---- from place to place: only these lines know how many places lie between
-abbrev lent : tie.After-check-work → tie.After-shared-slice-known4
+abbrev lent : tie.After-check_work-checked → tie.After-shared_slice_known-4-1
 lent c = c.before.before.before
 
-abbrev entry : tie.After-check-work → tie.Start
+abbrev entry : tie.After-check_work-checked → tie.Start
 entry c = (lent c).before.before.before.before
 
-abbrev checks : tie.After-checked2 → tie.After-check-work
-checks c = c.before.before
+abbrev checks : tie.In-Sound → tie.After-check_work-checked
+checks c = c.before
 
-abbrev asked : tie.After-loss-sound → tie.After-checked2
-asked c = c.before.before.before.before
+abbrev asked : tie.After-loss_sound-answer → tie.In-Sound
+asked c = c.before.before.before
 
-abbrev worked : tie.After-clear-arg → tie.After-loss-sound
+abbrev worked : tie.After-clear-arg-1 → tie.After-loss_sound-answer
 worked c = c.before.before.before.before.before
 
-abbrev cleared : tie.After-clear-arg2 → tie.After-clear
+abbrev cleared : tie.After-clear-arg-in-Sound-1 → tie.After-clear
 cleared c = c.before.before.before
 
 -- ---- what the checks leave where they accept
-sound : (c : tie.After-checked2)
+sound : (c : tie.In-Sound)
     → SoundPast9 (entry (checks c)).args.widths.now (entry (checks c)).args.grid
     (length (entry (checks c)).args.model.now) (length (entry (checks c)).args.first.now)
-    (length (entry (checks c)).args.second.now) c.checked2.given.0.0
-sound c = sound_past9 _ _ _ _ _ _ (sym (checks c).check-work.ensures ∙ c.checked2.given.1)
+    (length (entry (checks c)).args.second.now) c.in-Sound.sizes
+sound c = sound_past9 _ _ _ _ _ _ (sym (checks c).check_work-checked.ensures ∙ c.in-Sound.is)
 
 -- ---- the needs
-check_work_requires : tie.Need-check-work-requires
+check_work_requires : tie.Need-check_work-checked-requires
 check_work_requires c κs = search rules
 
-enum_known_checked : tie.Need-enum-known-checked
+enum_known_checked : tie.Need-enum_known-checked
 enum_known_checked c = search rules
 
-enum_known_checked_2 : tie.Need-enum-known-checked-2
+enum_known_checked_2 : tie.Need-enum_known-checked-in-Sound-1
 enum_known_checked_2 c = search rules
 
-loss_sound_requires : tie.Need-loss-sound-requires
-loss_sound_requires c κs = fitted _ _ _ _ _ (sound c.before.before.before).checked
+loss_sound_requires : tie.Need-loss_sound-answer-requires
+loss_sound_requires c κs = fitted _ _ _ _ _ (sound c.before.before).checked
 
 clear_requires : tie.Need-clear-requires
 clear_requires c κs =
     let w = worked c in
-    omega (arith, first_room (sound (asked w)), w.loss-sound.kept.1.1.1.1.1.0)
+    omega (arith, first_room (sound (asked w)), w.loss_sound-answer.auto.first)
 
-clear_requires_2 : tie.Need-clear-requires-2
+clear_requires_2 : tie.Need-clear-requires-in-Sound
 clear_requires_2 c κs =
     let w = worked (cleared c).before in
-    omega (arith, second_room (sound (asked w)), w.loss-sound.kept.1.1.1.1.1.1.0)
+    omega (arith, second_room (sound (asked w)), w.loss_sound-answer.auto.second)
 
-returns : tie.Need-returns
+returns : tie.Need-returns-in-Refused
 returns c =
-    let matched = c.before in
-    loss_refused (rejected _ _ _ (sym matched.before.before.check-work.ensures ∙ matched.checked.given.1))
+    loss_refused (rejected _ _ _ (sym c.check_work-checked.ensures ∙ c.in-Refused.is))
 
-same_length : tie.Need-same-length
+same_length : tie.Need-shape_of-first
 same_length c = search rules
 
-same_length_2 : tie.Need-same-length-2
+same_length_2 : tie.Need-shape_of-second
 same_length_2 c = search rules
 
-returns_2 : tie.Need-returns-2
+returns_2 : tie.Need-returns-in-Sound
 returns_2 c =
     let second = c.before.before in
     let first = cleared second.before in
     let w = worked first.before in
-    loss_done _ _ (sound (asked w)) w.loss-sound.ensures first.clear.ensures second.clear2.ensures
+    loss_done _ _ (sound (asked w)) w.loss_sound-answer.ensures first.clear.ensures second.clear-in-Sound.ensures
 
 pub mse_loss_spec : {M : Type 1} → statement M
 mse_loss_spec =

@@ -5,49 +5,45 @@ use Rattle.prediction.proofs.Outputs.{copied}
 use Rattle.prediction.proofs.copy_outputs.Statement.{statement}
 use Rattle.prediction.proofs.copy_outputs.Tie as tie
 
-sub_copy : tie.Need-overflow-sub-copy
+sub_copy : tie.Need-slice_bounds-copy-count
 sub_copy c = search rules
 
-part_copy_start : tie.Need-slice-bounds-copy-start
+part_copy_start : tie.Need-slice_bounds-copy-start
 part_copy_start c = search rules
 
-part_copy_end : tie.Need-slice-bounds-copy-end
+part_copy_end : tie.Need-slice_bounds-copy-end
 part_copy_end c = search rules
 
 copy_requires : tie.Need-copy-requires
 copy_requires c κs = search rules
 
-sub_copy_2 : tie.Need-overflow-sub-copy-2
+sub_copy_2 : tie.Need-slice_bounds-copy-count-else-layers-eq0
 sub_copy_2 c = search rules
 
-part_copy_start_2 : tie.Need-slice-bounds-copy-start-2
+part_copy_start_2 : tie.Need-slice_bounds-copy-start-else-layers-eq0
 part_copy_start_2 c = search rules
 
-part_copy_end_2 : tie.Need-slice-bounds-copy-end-2
+part_copy_end_2 : tie.Need-slice_bounds-copy-end-else-layers-eq0
 part_copy_end_2 c = search rules
 
-copy_requires_2 : tie.Need-copy-requires-2
+copy_requires_2 : tie.Need-copy-requires-else-layers-eq0
 copy_requires_2 c κs = search rules
 
-same_length : tie.Need-same-length
+same_length : tie.Need-shape_of-outputs-then-layers-eq0
 same_length c = search rules
 
-returns : tie.Need-returns
+returns : tie.Need-returns-then-layers-eq0
 returns c =
-    let even = c.before.before.before.before.before in
-    let entry = even.before.before.before.before in
-    let e = eq-eqb _ _ even.if1.true in
-    rw e (copied _ _ _ _ entry.requires.1 c.before.before.copy.ensures)
+    let e = eq-eqb _ _ c.if-layers-eq0.true in
+    rw e (copied _ _ _ _ c.requires.1 c.copy.ensures)
 
-same_length_2 : tie.Need-same-length-2
+same_length_2 : tie.Need-shape_of-outputs-else-layers-eq0
 same_length_2 c = search rules
 
-returns_2 : tie.Need-returns-2
+returns_2 : tie.Need-returns-else-layers-eq0
 returns_2 c =
-    let odd = c.before.before.before.before.before in
-    let entry = odd.before.before.before.before in
-    let e = ne_eqb _ _ odd.if1.false in
-    rw e (copied _ _ _ _ entry.requires.0 c.before.before.copy2.ensures)
+    let e = ne_eqb _ _ c.if-layers-eq0.false in
+    rw e (copied _ _ _ _ c.requires.0 c.copy-else-layers-eq0.ensures)
 
 pub copy_outputs_spec : {M : Type 1} → statement M
 copy_outputs_spec =

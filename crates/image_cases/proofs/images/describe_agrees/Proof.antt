@@ -8,43 +8,43 @@ use Rattle.image_cases.proofs.images.describe_agrees.Tie as tie
 new_requires : tie.Need-new-requires
 new_requires c κs = search rules
 
-bytes_here_requires : tie.Need-bytes-here-requires
+bytes_here_requires : tie.Need-bytes_here-image-requires
 bytes_here_requires c κs = search rules
 
-array_share_prefix_bytes : tie.Need-array-share-prefix-bytes
+array_share_prefix_bytes : tie.Need-slice_bounds-bytes-end
 array_share_prefix_bytes c = search rules
 
-slice_aggregate_describe : tie.Need-slice-aggregate-describe
+slice_aggregate_describe : tie.Need-slice_bounds-describe-end
 slice_aggregate_describe c = sym (length-take-le _ _ (array_share_prefix_bytes c.before))
 
 describe_requires : tie.Need-describe-requires
 describe_requires c κs = search rules
 
-enum_known_description : tie.Need-enum-known-description
+enum_known_description : tie.Need-enum_known-description
 enum_known_description c = search rules
 
-meet_accepted_requires : tie.Need-meet-accepted-requires
+meet_accepted_requires : tie.Need-meet_accepted-answered-requires
 meet_accepted_requires c κs = search rules
 
-meet_description_requires : tie.Need-meet-description-requires
+meet_description_requires : tie.Need-meet_description-requires
 meet_description_requires c κs = search rules
 
-is_end_requires : tie.Need-is-end-requires
+is_end_requires : tie.Need-is_end-requires
 is_end_requires c κs = search rules
 
-enum_known_refusal : tie.Need-enum-known-refusal
+enum_known_refusal : tie.Need-enum_known-refusal
 enum_known_refusal c = search rules
 
-meet_refusal_requires : tie.Need-meet-refusal-requires
+meet_refusal_requires : tie.Need-meet_refusal-requires
 meet_refusal_requires c κs = search rules
 
-is_end_requires_2 : tie.Need-is-end-requires-2
+is_end_requires_2 : tie.Need-is_end-requires-in-Refused
 is_end_requires_2 c κs = search rules
 
-returns : tie.Need-returns
+returns : tie.Need-returns-in-Sound
 returns c = search rules
 
-returns_2 : tie.Need-returns-2
+returns_2 : tie.Need-returns-in-Refused
 returns_2 c = search rules
 
 pub describe_agrees_spec : {M : Type 1} → statement M

@@ -8,16 +8,16 @@ use Rattle.image_cases.proofs.images.read_agrees.Tie as tie
 new_requires : tie.Need-new-requires
 new_requires c κs = search rules
 
-bytes_here_requires : tie.Need-bytes-here-requires
+bytes_here_requires : tie.Need-bytes_here-image-requires
 bytes_here_requires c κs = search rules
 
-array_share_prefix_bytes : tie.Need-array-share-prefix-bytes
+array_share_prefix_bytes : tie.Need-slice_bounds-bytes-end
 array_share_prefix_bytes c = search rules
 
-slice_aggregate_read_meets : tie.Need-slice-aggregate-read-meets
+slice_aggregate_read_meets : tie.Need-slice_bounds-read_meets-end
 slice_aggregate_read_meets c = sym (length-take-le _ _ (array_share_prefix_bytes c.before))
 
-read_meets_requires : tie.Need-read-meets-requires
+read_meets_requires : tie.Need-read_meets-requires
 read_meets_requires c κs = search rules
 
 returns : tie.Need-returns

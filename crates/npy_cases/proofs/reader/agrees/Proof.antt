@@ -8,40 +8,40 @@ use Rattle.npy_cases.proofs.reader.agrees.Tie as tie
 new_requires : tie.Need-new-requires
 new_requires c κs = search rules
 
-setup_here_requires : tie.Need-setup-here-requires
+setup_here_requires : tie.Need-setup_here-setup-requires
 setup_here_requires c κs = search rules
 
-floats_here_requires : tie.Need-floats-here-requires
+floats_here_requires : tie.Need-floats_here-model-requires
 floats_here_requires c κs = search rules
 
-word_requires : tie.Need-word-requires
+word_requires : tie.Need-word-layer-requires
 word_requires c κs = search rules
 
 skip_requires : tie.Need-skip-requires
 skip_requires c κs = search rules
 
-bytes_here_requires : tie.Need-bytes-here-requires
+bytes_here_requires : tie.Need-bytes_here-file-requires
 bytes_here_requires c κs = search rules
 
-array_share_prefix_widths : tie.Need-array-share-prefix-widths
+array_share_prefix_widths : tie.Need-slice_bounds-widths-end
 array_share_prefix_widths c = search rules
 
-slice_aggregate_meets : tie.Need-slice-aggregate-meets
+slice_aggregate_meets : tie.Need-slice_bounds-meets-end
 slice_aggregate_meets c = sym (length-take-le _ _ (array_share_prefix_widths c.before))
 
-sub_meets : tie.Need-overflow-sub-meets
+sub_meets : tie.Need-slice_bounds-meets-count
 sub_meets c = search rules
 
-part_parameters_start : tie.Need-slice-bounds-parameters-start
+part_parameters_start : tie.Need-slice_bounds-parameters-start
 part_parameters_start c = search rules
 
-part_parameters_end : tie.Need-slice-bounds-parameters-end
+part_parameters_end : tie.Need-slice_bounds-parameters-end
 part_parameters_end c = search rules
 
-array_share_prefix_bytes : tie.Need-array-share-prefix-bytes
+array_share_prefix_bytes : tie.Need-slice_bounds-bytes-end
 array_share_prefix_bytes c = search rules
 
-slice_aggregate_meets_2 : tie.Need-slice-aggregate-meets-2
+slice_aggregate_meets_2 : tie.Need-slice_bounds-meets-end-2
 slice_aggregate_meets_2 c = sym (length-take-le _ _ (array_share_prefix_bytes c.before))
 
 meets_requires : tie.Need-meets-requires

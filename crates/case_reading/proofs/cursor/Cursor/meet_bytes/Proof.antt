@@ -5,31 +5,31 @@ use borrow.Author.Rules.{rules}
 use Rattle.case_reading.proofs.cursor.Cursor.meet_bytes.Statement.{statement}
 use Rattle.case_reading.proofs.cursor.Cursor.meet_bytes.Tie as tie
 
-abbrev invariant-loop : tie.invariant-loop
+abbrev invariant-loop : tie.invariant-loop-i
 invariant-loop words found next₀ i₀ next i = i ≤ length found
 
-abbrev decreases-loop : tie.decreases-loop
+abbrev decreases-loop : tie.decreases-loop-i
 decreases-loop words found next₀ i₀ next i = length found - i
 
-loop_holds : tie.Need-loop-init invariant-loop decreases-loop
+loop_holds : tie.Need-loop-i-init invariant-loop decreases-loop
 loop_holds c = search rules
 
-shared_slice_read_wide : tie.Need-shared-slice-read-wide invariant-loop decreases-loop
+shared_slice_read_wide : tie.Need-bounds-found-i invariant-loop decreases-loop
 shared_slice_read_wide c = search rules
 
 wide_requires : tie.Need-wide-requires invariant-loop decreases-loop
 wide_requires c κs = search rules
 
-meet_requires : tie.Need-meet-requires invariant-loop decreases-loop
+meet_requires : tie.Need-meet-next-requires invariant-loop decreases-loop
 meet_requires c κs = search rules
 
-add_i : tie.Need-overflow-add-i invariant-loop decreases-loop
+add_i : tie.Need-overflow_add-i invariant-loop decreases-loop
 add_i c = search rules
 
-loop_less : tie.Need-loop-smaller invariant-loop decreases-loop
+loop_less : tie.Need-loop-i-smaller invariant-loop decreases-loop
 loop_less c = search rules
 
-loop_again : tie.Need-loop-preserved invariant-loop decreases-loop
+loop_again : tie.Need-loop-i-preserved invariant-loop decreases-loop
 loop_again c = search rules
 
 returns : tie.Need-returns invariant-loop decreases-loop

@@ -26,8 +26,7 @@ use telling::{tell, tell_checked, tell_description, tell_loss, tell_training};
 
 mod telling;
 
-#[unsafe(no_mangle)]
-pub extern "C" fn kan_check(
+pub fn kan_check(
     widths: &[usize],
     intervals: usize,
     lo: f32,
@@ -43,8 +42,7 @@ pub extern "C" fn kan_check(
     tell_checked(checked, parameters, carried)
 }
 
-#[unsafe(no_mangle)]
-pub extern "C" fn kan_initialise(
+pub fn kan_initialise(
     widths: &[usize],
     intervals: usize,
     lo: f32,
@@ -60,8 +58,7 @@ pub extern "C" fn kan_initialise(
     tell(outcome, carried)
 }
 
-#[unsafe(no_mangle)]
-pub extern "C" fn kan_predict(
+pub fn kan_predict(
     widths: &[usize],
     intervals: usize,
     lo: f32,
@@ -90,8 +87,7 @@ pub extern "C" fn kan_predict(
     tell(outcome, carried)
 }
 
-#[unsafe(no_mangle)]
-pub extern "C" fn kan_loss(
+pub fn kan_loss(
     widths: &[usize],
     intervals: usize,
     lo: f32,
@@ -122,8 +118,7 @@ pub extern "C" fn kan_loss(
     tell_loss(answer, loss, carried)
 }
 
-#[unsafe(no_mangle)]
-pub extern "C" fn kan_train_step(
+pub fn kan_train_step(
     widths: &[usize],
     intervals: usize,
     lo: f32,
@@ -154,8 +149,7 @@ pub extern "C" fn kan_train_step(
     tell(outcome, carried)
 }
 
-#[unsafe(no_mangle)]
-pub extern "C" fn kan_train(
+pub fn kan_train(
     widths: &[usize],
     intervals: usize,
     lo: f32,
@@ -190,8 +184,7 @@ pub extern "C" fn kan_train(
     tell_training(answer, done, carried)
 }
 
-#[unsafe(no_mangle)]
-pub extern "C" fn kan_accumulate(
+pub fn kan_accumulate(
     widths: &[usize],
     intervals: usize,
     lo: f32,
@@ -222,8 +215,7 @@ pub extern "C" fn kan_accumulate(
     tell(outcome, carried)
 }
 
-#[unsafe(no_mangle)]
-pub extern "C" fn kan_apply(
+pub fn kan_apply(
     widths: &[usize],
     intervals: usize,
     lo: f32,
@@ -241,8 +233,7 @@ pub extern "C" fn kan_apply(
     tell(outcome, carried)
 }
 
-#[unsafe(no_mangle)]
-pub extern "C" fn kan_visits(
+pub fn kan_visits(
     widths: &[usize],
     intervals: usize,
     lo: f32,
@@ -271,8 +262,7 @@ pub extern "C" fn kan_visits(
     tell(outcome, carried)
 }
 
-#[unsafe(no_mangle)]
-pub extern "C" fn kan_image_write(
+pub fn kan_image_write(
     widths: &[usize],
     intervals: usize,
     lo: f32,
@@ -289,8 +279,7 @@ pub extern "C" fn kan_image_write(
     tell(outcome, carried)
 }
 
-#[unsafe(no_mangle)]
-pub extern "C" fn kan_image_read(
+pub fn kan_image_read(
     image: &[u8],
     intervals: &mut usize,
     lo: &mut f32,
@@ -309,8 +298,7 @@ pub extern "C" fn kan_image_read(
     tell_description(described, intervals, lo, hi, widths, parameters, carried)
 }
 
-#[unsafe(no_mangle)]
-pub extern "C" fn kan_image_unpack(
+pub fn kan_image_unpack(
     image: &[u8],
     widths: &mut [usize],
     model: &mut [f32],
@@ -324,8 +312,7 @@ pub extern "C" fn kan_image_unpack(
     tell(outcome, carried)
 }
 
-#[unsafe(no_mangle)]
-pub extern "C" fn kan_npy_write(
+pub fn kan_npy_write(
     widths: &[usize],
     intervals: usize,
     lo: f32,
@@ -343,8 +330,7 @@ pub extern "C" fn kan_npy_write(
     tell(outcome, carried)
 }
 
-#[unsafe(no_mangle)]
-pub extern "C" fn kan_npy_read(
+pub fn kan_npy_read(
     widths: &[usize],
     intervals: usize,
     lo: f32,

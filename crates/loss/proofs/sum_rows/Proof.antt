@@ -51,11 +51,8 @@ turn c = ran_in (go_on c)
 abbrev begun : tie.Else-number-ne0 invariant-loop decreases-loop → tie.Start invariant-loop decreases-loop
 begun c = entry (turn c).before
 
-abbrev target : tie.After-row-errors-arg2 invariant-loop decreases-loop → tie.Else-number-ne0 invariant-loop decreases-loop
-target c = c.before.before
-
 abbrev passed : tie.After-row_errors-step invariant-loop decreases-loop → tie.Else-number-ne0 invariant-loop decreases-loop
-passed c = target c.before.before
+passed c = c.before.before
 
 abbrev stop_errors : tie.In-Stopped invariant-loop decreases-loop → tie.After-row_errors-step invariant-loop decreases-loop
 stop_errors c = c.before
@@ -158,13 +155,12 @@ returns c =
 
 row_requires_2 : tie.Need-row-requires-in-loop-r invariant-loop decreases-loop
 row_requires_2 c κs =
-    let e = target c in
-    let pre = (begun e).requires in
-    le_of_lt (row_begins _ _ _ (wide_rows pre.fits).1 (rw pre.batch.same_rows at (at_row (turn e)).more))
+    let pre = (begun c).requires in
+    le_of_lt (row_begins _ _ _ (wide_rows pre.fits).1 (rw pre.batch.same_rows at (at_row (turn c)).more))
 
 row_errors_requires : tie.Need-row_errors-step-requires invariant-loop decreases-loop
 row_errors_requires c κs =
-    let e = target c.before in
+    let e = c.before in
     let fits = fits_kept (begun e).requires.fits (after_row_lem (go_on e)).kept in
     let wide = ap length c.row-in-loop-r.ensures ∙ wide_row _ 15 17 _ (target_sound (turn e)) in
     ((outputs_room fits).0, (outputs_room fits).1, le_of_eq (sym wide))
@@ -191,10 +187,10 @@ returns_2 c =
 add_r : tie.Need-overflow_step-r invariant-loop decreases-loop
 add_r c =
     let e = passed (go_on_errors c) in
-    omega (arith, (turn e).loop-r-test.true, (begun e).fits.rows)
+    omega (arith, (turn e).loop-r-test.true, (begun e).ranges.rows.fits)
 
 loop_less : tie.Need-loop-r-smaller invariant-loop decreases-loop
-loop_less c = omega (arith, (turn (passed (go_on_errors c))).loop-test.taken)
+loop_less c = omega (arith, (turn (passed (go_on_errors c))).loop-r-test.true)
 
 loop_again : tie.Need-loop-r-preserved invariant-loop decreases-loop
 loop_again c =

@@ -8,34 +8,34 @@ use Rattle.call_cases.proofs.calls.initialise_agrees.Tie as tie
 new_requires : tie.Need-new-requires
 new_requires c κs = search rules
 
-setup_here_requires : tie.Need-setup-here-requires
+setup_here_requires : tie.Need-setup_here-setup-requires
 setup_here_requires c κs = search rules
 
-word_requires : tie.Need-word-requires
+word_requires : tie.Need-word-seed-requires
 word_requires c κs = search rules
 
 skip_requires : tie.Need-skip-requires
 skip_requires c κs = search rules
 
-length_here_requires : tie.Need-length-here-requires
+length_here_requires : tie.Need-length_here-length-requires
 length_here_requires c κs = search rules
 
-array_share_prefix_widths : tie.Need-array-share-prefix-widths
+array_share_prefix_widths : tie.Need-slice_bounds-widths-end
 array_share_prefix_widths c = search rules
 
-slice_aggregate_initialise_meets : tie.Need-slice-aggregate-initialise-meets
+slice_aggregate_initialise_meets : tie.Need-slice_bounds-initialise_meets-end
 slice_aggregate_initialise_meets c = sym (length-take-le _ _ (array_share_prefix_widths c.before))
 
-sub_initialise_meets : tie.Need-overflow-sub-initialise-meets
+sub_initialise_meets : tie.Need-slice_bounds-initialise_meets-count
 sub_initialise_meets c = search rules
 
-part_model_start : tie.Need-slice-bounds-model-start
+part_model_start : tie.Need-slice_bounds-model-start
 part_model_start c = search rules
 
-part_model_end : tie.Need-slice-bounds-model-end
+part_model_end : tie.Need-slice_bounds-model-end
 part_model_end c = search rules
 
-initialise_meets_requires : tie.Need-initialise-meets-requires
+initialise_meets_requires : tie.Need-initialise_meets-requires
 initialise_meets_requires c κs = search rules
 
 returns : tie.Need-returns

@@ -7,158 +7,158 @@ use Rattle.row_gradients.proofs.Slots.{reach, inputs_length, ups_length, cells, 
 use Rattle.row_gradients.proofs.adding.add_layers.Statement.{statement}
 use Rattle.row_gradients.proofs.adding.add_layers.Tie as tie
 
-abbrev invariant-loop : tie.invariant-loop
+abbrev invariant-loop : tie.invariant-loop-layer
 invariant-loop grid table widths model work end gradients₀ clean half layer₀ gradients layer =
     Summed grid model widths work gradients₀ layer.index layer gradients
 
-abbrev decreases-loop : tie.decreases-loop
+abbrev decreases-loop : tie.decreases-loop-layer
 decreases-loop grid table widths model work end gradients₀ clean half layer₀ gradients layer = end.index - layer.index
 
 -- ---- from place to place: only these lines know how many places lie between
-abbrev entry : tie.After-struct-known invariant-loop decreases-loop → tie.Start invariant-loop decreases-loop
+abbrev entry : tie.After-struct_known-1 invariant-loop decreases-loop → tie.Start invariant-loop decreases-loop
 entry c = c.before.before.before.before.before
 
-abbrev start : tie.At-loop invariant-loop decreases-loop → tie.Start invariant-loop decreases-loop
+abbrev start : tie.At-loop-layer invariant-loop decreases-loop → tie.Start invariant-loop decreases-loop
 start c = entry c.before.before
 
-abbrev head : tie.Then1 invariant-loop decreases-loop → tie.At-loop invariant-loop decreases-loop
+abbrev head : tie.In-loop-layer invariant-loop decreases-loop → tie.At-loop-layer invariant-loop decreases-loop
 head c = c.before.before.before
 
-abbrev cut : tie.After-struct-known4 invariant-loop decreases-loop → tie.After-next invariant-loop decreases-loop
+abbrev cut : tie.After-struct_known-in-loop-layer-3-1 invariant-loop decreases-loop → tie.After-next-next invariant-loop decreases-loop
 cut c = c.before.before
 
-abbrev cut_2 : tie.After-add-layer-arg invariant-loop decreases-loop → tie.After-next invariant-loop decreases-loop
+abbrev cut_2 : tie.After-add_layer-arg-1 invariant-loop decreases-loop → tie.After-next-next invariant-loop decreases-loop
 cut_2 c = cut c.before
 
-abbrev cut_3 : tie.After-add-layer-arg2 invariant-loop decreases-loop → tie.After-next invariant-loop decreases-loop
+abbrev cut_3 : tie.After-add_layer-arg-in-loop-layer-1 invariant-loop decreases-loop → tie.After-next-next invariant-loop decreases-loop
 cut_3 c = cut_2 c.before
 
-abbrev cut_4 : tie.After-add-layer-arg3 invariant-loop decreases-loop → tie.After-next invariant-loop decreases-loop
+abbrev cut_4 : tie.After-add_layer-arg-in-loop-layer-2-1 invariant-loop decreases-loop → tie.After-next-next invariant-loop decreases-loop
 cut_4 c = cut_3 c.before
 
-abbrev asked : tie.After-add-layer-arg4 invariant-loop decreases-loop → tie.After-next invariant-loop decreases-loop
+abbrev asked : tie.After-add_layer-arg-in-loop-layer-3-1 invariant-loop decreases-loop → tie.After-next-next invariant-loop decreases-loop
 asked c = cut_4 c.before
 
-abbrev run : tie.After-add-layer invariant-loop decreases-loop → tie.After-next invariant-loop decreases-loop
+abbrev run : tie.After-add_layer invariant-loop decreases-loop → tie.After-next-next invariant-loop decreases-loop
 run c = asked c.before
 
-abbrev back : tie.After-slice-known2 invariant-loop decreases-loop → tie.After-gradients invariant-loop decreases-loop
+abbrev back : tie.After-slice_known-in-loop-layer-1 invariant-loop decreases-loop → tie.After-gradients-1 invariant-loop decreases-loop
 back c = c.before
 
-abbrev ended : tie.Else1 invariant-loop decreases-loop → tie.At-loop invariant-loop decreases-loop
+abbrev ended : tie.After-loop-layer invariant-loop decreases-loop → tie.At-loop-layer invariant-loop decreases-loop
 ended c = c.before.before.before
 
 -- ---- what is known in a turn
-turning : (c : tie.After-next invariant-loop decreases-loop)
+turning : (c : tie.After-next-next invariant-loop decreases-loop)
     → let k = head c.before in
     let a = (start k).args in
     Summing a.grid a.model.now a.widths.now a.work.now a.gradients.now
-    (a.end.node + a.end.inputs) k.loop.layer.index k.loop.layer c.next.result k.loop.gradients
+    (a.end.node + a.end.inputs) k.loop-layer.layer.index k.loop-layer.layer c.next-next.result k.loop-layer.gradients
 turning c =
     let k = head c.before in
-    let pre = (start k).pre in
+    let pre = (start k).requires in
     record {
       fits = pre.0;
       same = pre.1;
       middle = last_nodes pre.0.walkable pre.2;
-      more = omega (arith, c.before.if1.true, pre.2.index);
-      summed = k.loop.inv;
-      next = c.next.ensures;
+      more = omega (arith, c.loop-layer-test.true, pre.2.index);
+      summed = k.loop-layer.invariant;
+      next = c.next-next.ensures;
     }
 
 -- ---- the needs
-add_half : tie.Need-overflow-add-half invariant-loop decreases-loop
+add_half : tie.Need-overflow_add-half invariant-loop decreases-loop
 add_half c = let p = (entry c).requires in omega (arith, last_nodes p.0.walkable p.2, p.0.walkable.narrow)
 
-first_requires : tie.Need-first-requires invariant-loop decreases-loop
+first_requires : tie.Need-first-layer-requires invariant-loop decreases-loop
 first_requires c κs = (entry c).requires.0.walkable.grid
 
-loop_holds : tie.Need-loop-init invariant-loop decreases-loop
-loop_holds c = here (set_out c.first.ensures)
+loop_holds : tie.Need-loop-layer-init invariant-loop decreases-loop
+loop_holds c = here (set_out c.first-layer.ensures)
 
-next_requires : tie.Need-next-requires invariant-loop decreases-loop
+next_requires : tie.Need-next-next-requires invariant-loop decreases-loop
 next_requires c κs =
     let k = head c in
-    let pre = (start k).pre in
-    (pre.0.walkable, omega (arith, c.if1.true, pre.2.index), k.loop.inv.stands)
+    let pre = (start k).requires in
+    (pre.0.walkable, omega (arith, c.loop-layer-test.true, pre.2.index), k.loop-layer.invariant.stands)
 
-add_ups : tie.Need-overflow-add-ups invariant-loop decreases-loop
+add_ups : tie.Need-overflow_add-ups invariant-loop decreases-loop
 add_ups c = omega (arith, reach (turning c.before))
 
-add_ups_end : tie.Need-overflow-add-ups-end invariant-loop decreases-loop
+add_ups_end : tie.Need-overflow_add-ups_end invariant-loop decreases-loop
 add_ups_end c = omega (arith, reach (turning (cut c)))
 
-mul_add_layer : tie.Need-overflow-mul-add-layer invariant-loop decreases-loop
+mul_add_layer : tie.Need-offset_bounds-model-at invariant-loop decreases-loop
 mul_add_layer c = omega (arith, reach (turning (cut c)))
 
-sub_add_layer : tie.Need-overflow-sub-add-layer invariant-loop decreases-loop
+sub_add_layer : tie.Need-slice_bounds-add_layer-count invariant-loop decreases-loop
 sub_add_layer c = omega (arith, reach (turning (cut c)))
 
-part_add_layer_start : tie.Need-slice-bounds-add-layer-start invariant-loop decreases-loop
+part_add_layer_start : tie.Need-slice_bounds-add_layer-start invariant-loop decreases-loop
 part_add_layer_start c = omega (arith, reach (turning (cut c)))
 
-part_add_layer_end : tie.Need-slice-bounds-add-layer-end invariant-loop decreases-loop
+part_add_layer_end : tie.Need-slice_bounds-add_layer-end invariant-loop decreases-loop
 part_add_layer_end c = omega (arith, reach (turning (cut c)))
 
-mul_add_layer_2 : tie.Need-overflow-mul-add-layer-2 invariant-loop decreases-loop
+mul_add_layer_2 : tie.Need-offset_bounds-work-from invariant-loop decreases-loop
 mul_add_layer_2 c = omega (arith, reach (turning (cut_2 c)))
 
-sub_add_layer_2 : tie.Need-overflow-sub-add-layer-2 invariant-loop decreases-loop
+sub_add_layer_2 : tie.Need-slice_bounds-add_layer-count-in-loop-layer invariant-loop decreases-loop
 sub_add_layer_2 c = omega (arith, reach (turning (cut_2 c)))
 
-part_add_layer_start_2 : tie.Need-slice-bounds-add-layer-start-2 invariant-loop decreases-loop
+part_add_layer_start_2 : tie.Need-slice_bounds-add_layer-start-in-loop-layer invariant-loop decreases-loop
 part_add_layer_start_2 c = omega (arith, reach (turning (cut_2 c)))
 
-part_add_layer_end_2 : tie.Need-slice-bounds-add-layer-end-2 invariant-loop decreases-loop
+part_add_layer_end_2 : tie.Need-slice_bounds-add_layer-end-in-loop-layer invariant-loop decreases-loop
 part_add_layer_end_2 c = omega (arith, reach (turning (cut_2 c)))
 
-mul_add_layer_3 : tie.Need-overflow-mul-add-layer-3 invariant-loop decreases-loop
+mul_add_layer_3 : tie.Need-offset_bounds-work-ups invariant-loop decreases-loop
 mul_add_layer_3 c = omega (arith, reach (turning (cut_3 c)))
 
-sub_add_layer_3 : tie.Need-overflow-sub-add-layer-3 invariant-loop decreases-loop
+sub_add_layer_3 : tie.Need-slice_bounds-add_layer-count-in-loop-layer-2 invariant-loop decreases-loop
 sub_add_layer_3 c = omega (arith, reach (turning (cut_3 c)))
 
-part_add_layer_start_3 : tie.Need-slice-bounds-add-layer-start-3 invariant-loop decreases-loop
+part_add_layer_start_3 : tie.Need-slice_bounds-add_layer-start-in-loop-layer-2 invariant-loop decreases-loop
 part_add_layer_start_3 c = omega (arith, reach (turning (cut_3 c)))
 
-part_add_layer_end_3 : tie.Need-slice-bounds-add-layer-end-3 invariant-loop decreases-loop
+part_add_layer_end_3 : tie.Need-slice_bounds-add_layer-end-in-loop-layer-2 invariant-loop decreases-loop
 part_add_layer_end_3 c = omega (arith, reach (turning (cut_3 c)))
 
-mul_add_layer_4 : tie.Need-overflow-mul-add-layer-4 invariant-loop decreases-loop
+mul_add_layer_4 : tie.Need-offset_bounds-gradients-at invariant-loop decreases-loop
 mul_add_layer_4 c = omega (arith, reach (turning (cut_4 c)))
 
-sub_add_layer_4 : tie.Need-overflow-sub-add-layer-4 invariant-loop decreases-loop
+sub_add_layer_4 : tie.Need-slice_bounds-add_layer-count-in-loop-layer-3 invariant-loop decreases-loop
 sub_add_layer_4 c = omega (arith, reach (turning (cut_4 c)))
 
-part_add_layer_start_4 : tie.Need-slice-bounds-add-layer-start-4 invariant-loop decreases-loop
+part_add_layer_start_4 : tie.Need-slice_bounds-add_layer-start-in-loop-layer-3 invariant-loop decreases-loop
 part_add_layer_start_4 c = omega (arith, reach (turning (cut_4 c)))
 
-part_add_layer_end_4 : tie.Need-slice-bounds-add-layer-end-4 invariant-loop decreases-loop
+part_add_layer_end_4 : tie.Need-slice_bounds-add_layer-end-in-loop-layer-3 invariant-loop decreases-loop
 part_add_layer_end_4 c = omega (arith, reach (turning (cut_4 c)))
 
-add_layer_requires : tie.Need-add-layer-requires invariant-loop decreases-loop
+add_layer_requires : tie.Need-add_layer-requires invariant-loop decreases-loop
 add_layer_requires c κs =
     let t = turning (asked c) in
-    let pre = (start (head (asked c).before)).pre in
+    let pre = (start (head (asked c).before)).requires in
     let w = inputs_length t in
     let n = ups_length t in
     (mesh_is (reach t).lie, pre.3, rw (w, n) (cells t pre.4), λ known. rw (w, n) (clean_in t (pre.5 known)))
 
-loop_less : tie.Need-loop-smaller invariant-loop decreases-loop
-loop_less c = let n = run (back c).before in omega (arith, n.next.ensures.index, n.before.if1.taken)
+loop_less : tie.Need-loop-layer-smaller invariant-loop decreases-loop
+loop_less c = omega (arith, c.next-next.ensures.index, c.loop-layer-test.true)
 
-loop_again : tie.Need-loop-preserved invariant-loop decreases-loop
+loop_again : tie.Need-loop-layer-preserved invariant-loop decreases-loop
 loop_again c =
     let k = (back c).before in
-    here (left (turning (run k)) (back c).gradients.given.1 k.add-layer.ensures)
+    here (left (turning (run k)) (back c).gradients-1.given.1 k.add_layer.ensures)
 
-same_length : tie.Need-same-length invariant-loop decreases-loop
-same_length c = (ended c).loop.invariant.size
+same_length : tie.Need-shape_of-gradients invariant-loop decreases-loop
+same_length c = (ended c).loop-layer.invariant.size
 
 returns : tie.Need-returns invariant-loop decreases-loop
 returns c =
     let k = ended c in
-    arrived (omega (arith, c.if1.false, (start k).pre.2.index)) k.loop.inv
+    arrived (omega (arith, c.loop-layer-test.false, (start k).requires.2.index)) k.loop-layer.invariant
 
 pub add_layers_spec : {M : Type 1} → statement M
 add_layers_spec =

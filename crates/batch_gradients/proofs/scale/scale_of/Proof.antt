@@ -4,8 +4,8 @@ use borrow.Author.Rules.{rules}
 use Rattle.batch_gradients.proofs.scale.scale_of.Statement.{statement}
 use Rattle.batch_gradients.proofs.scale.scale_of.Tie as tie
 
-int_to_float_result : tie.Need-int-to-float-result
-int_to_float_result c = exact _ c.before.requires
+int_to_float_result : tie.Need-int_to_float-result
+int_to_float_result c = exact _ c.requires
 
 returns : tie.Need-returns
 returns c = search rules

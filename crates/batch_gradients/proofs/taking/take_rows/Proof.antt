@@ -14,47 +14,47 @@ use Rattle.batch_gradients.proofs.Turns.{TakingRow, still_fits, still_same, stil
 use Rattle.batch_gradients.proofs.taking.take_rows.Statement.{statement}
 use Rattle.batch_gradients.proofs.taking.take_rows.Tie as tie
 
-abbrev invariant-loop : tie.invariant-loop
+abbrev invariant-loop : tie.invariant-loop-r
 invariant-loop grid table widths model inputs targets scale gradients₀ work₀ add clean last w v count r₀ gradients work r =
     (r ≤ count) × Taken (net_of grid) model widths inputs targets scale add clean gradients₀ work₀ r gradients work
 
-abbrev decreases-loop : tie.decreases-loop
+abbrev decreases-loop : tie.decreases-loop-r
 decreases-loop grid table widths model inputs targets scale gradients₀ work₀ add clean last w v count r₀ gradients work r = count - r
 
 -- ---- from place to place: only these lines know how many places lie between
-abbrev lent : tie.After-shared-slice-known4 invariant-loop decreases-loop → tie.Start invariant-loop decreases-loop
+abbrev lent : tie.After-shared_slice_known-4-1 invariant-loop decreases-loop → tie.Start invariant-loop decreases-loop
 lent c = c.before.before.before.before
 
-abbrev begun : tie.After-slice-known2 invariant-loop decreases-loop → tie.Start invariant-loop decreases-loop
+abbrev begun : tie.After-slice_known-2-1 invariant-loop decreases-loop → tie.Start invariant-loop decreases-loop
 begun c = lent c.before.before
 
-abbrev counted : tie.After-shared-slice-known6 invariant-loop decreases-loop → tie.Start invariant-loop decreases-loop
+abbrev counted : tie.After-shared_slice_known-6-1 invariant-loop decreases-loop → tie.Start invariant-loop decreases-loop
 counted c = begun c.before.before
 
-abbrev start : tie.At-loop invariant-loop decreases-loop → tie.Start invariant-loop decreases-loop
+abbrev start : tie.At-loop-r invariant-loop decreases-loop → tie.Start invariant-loop decreases-loop
 start c = counted c.before.before
 
-abbrev read : tie.After-row2 invariant-loop decreases-loop → tie.In-loop invariant-loop decreases-loop
+abbrev read : tie.After-row-target invariant-loop decreases-loop → tie.In-loop-r invariant-loop decreases-loop
 read c = c.before.before
 
-abbrev asked : tie.After-take-row-arg2 invariant-loop decreases-loop → tie.After-row2 invariant-loop decreases-loop
+abbrev asked : tie.After-take_row-arg-in-loop-r-1 invariant-loop decreases-loop → tie.After-row-target invariant-loop decreases-loop
 asked c = c.before.before
 
-abbrev run : tie.After-take-row invariant-loop decreases-loop → tie.After-row2 invariant-loop decreases-loop
+abbrev run : tie.After-take_row invariant-loop decreases-loop → tie.After-row-target invariant-loop decreases-loop
 run c = asked c.before
 
-abbrev stop : tie.Then1 invariant-loop decreases-loop → tie.After-take-row invariant-loop decreases-loop
+abbrev stop : tie.Then-not-take_row invariant-loop decreases-loop → tie.After-take_row invariant-loop decreases-loop
 stop c = c.before.before.before.before.before
 
-abbrev go_on : tie.Else1 invariant-loop decreases-loop → tie.After-take-row invariant-loop decreases-loop
+abbrev go_on : tie.Else-not-take_row invariant-loop decreases-loop → tie.After-take_row invariant-loop decreases-loop
 go_on c = c.before.before.before.before.before
 
 -- ---- what is known in a turn, and of its row
-turning : (c : tie.In-loop invariant-loop decreases-loop)
+turning : (c : tie.In-loop-r invariant-loop decreases-loop)
     → let k = c.before in
     let a = (start k).args in
     TakingRow a.grid a.model.now a.widths.now a.inputs.now a.targets.now a.scale
-    a.add a.clean a.gradients.now a.work.now k.loop.r k.loop.gradients k.loop.work
+    a.add a.clean a.gradients.now a.work.now k.loop-r.r k.loop-r.gradients k.loop-r.work
 turning c =
     let k = c.before in
     let pre = (start k).requires in
@@ -62,108 +62,107 @@ turning c =
       fits = pre.0;
       full = pre.1;
       same = pre.2;
-      more = subst (λ (n : ℕ). k.loop.r < n) k.before.rows_in.ensures c.loop-test.true;
-      taken = k.loop.invariant.1;
+      more = subst (λ (n : ℕ). k.loop-r.r < n) k.rows_in-count.ensures c.loop-r-test.true;
+      taken = k.loop-r.invariant.1;
     }
 
-done : (c : tie.After-take-row invariant-loop decreases-loop)
+done : (c : tie.After-take_row invariant-loop decreases-loop)
     → let k = (read (run c)).before in
     let a = (start k).args in
     RowTaken (net_of a.grid) a.model.now a.widths.now
-    (row_at a.inputs.now (input_width a.widths.now) k.loop.r)
-    (row_at a.targets.now (output_width a.widths.now) k.loop.r) a.scale a.add k.loop.gradients
-    k.loop.work c.take_row.new.1.1.1.1.1.1.1.0 c.take_row.new.1.1.1.1.1.1.1.1.0
+    (row_at a.inputs.now (input_width a.widths.now) k.loop-r.r)
+    (row_at a.targets.now (output_width a.widths.now) k.loop-r.r) a.scale a.add k.loop-r.gradients
+    k.loop-r.work c.take_row.new.gradients c.take_row.new.work
     c.take_row.result
-done c = let k = run c in same_row k.before.row.ensures k.row2.ensures c.take_row.ensures
+done c = same_row c.row-input.ensures c.row-target.ensures c.take_row.ensures
 
 -- ---- the needs
-sub_last : tie.Need-overflow-sub-last invariant-loop decreases-loop
+sub_last : tie.Need-overflow_sub-last invariant-loop decreases-loop
 sub_last c = omega (arith, (begun c).requires.0.walkable.some)
 
-shared_slice_read_w : tie.Need-shared-slice-read-w invariant-loop decreases-loop
-shared_slice_read_w c = omega (arith, (begun c.before).pre.0.walkable.some)
+shared_slice_read_w : tie.Need-bounds-widths-0 invariant-loop decreases-loop
+shared_slice_read_w c = omega (arith, (begun c.before).requires.0.walkable.some)
 
-mul_v : tie.Need-overflow-mul-v invariant-loop decreases-loop
-mul_v c = omega (arith, (begun c.before).pre.0.walkable.some)
+mul_v : tie.Need-offset_bounds-widths-last invariant-loop decreases-loop
+mul_v c = omega (arith, (begun c.before).requires.0.walkable.some)
 
-shared_slice_read_v : tie.Need-shared-slice-read-v invariant-loop decreases-loop
-shared_slice_read_v c = omega (arith, (counted c).requires.0.walkable.some)
+shared_slice_read_v : tie.Need-bounds-widths-last invariant-loop decreases-loop
+shared_slice_read_v c = omega (arith, c.before.before.before.before.before.before.before.before.requires.0.walkable.some)
 
-rows_in_requires : tie.Need-rows-in-requires invariant-loop decreases-loop
+rows_in_requires : tie.Need-rows_in-count-requires invariant-loop decreases-loop
 rows_in_requires c κs = first_some (counted c).requires.0.walkable
 
-loop_holds : tie.Need-loop-init invariant-loop decreases-loop
-loop_holds c = (omega arith, none_taken (counted c.before).pre.5)
+loop_holds : tie.Need-loop-r-init invariant-loop decreases-loop
+loop_holds c = (omega arith, none_taken (counted c.before).requires.5)
 
-row_requires : tie.Need-row-requires invariant-loop decreases-loop
+row_requires : tie.Need-row-input-requires invariant-loop decreases-loop
 row_requires c κs =
     let k = c.before in
-    row_starts _ _ _ _ (first_some (start k).requires.0.walkable) k.before.rows_in.ensures c.loop-test.true
+    row_starts _ _ _ _ (first_some (start k).requires.0.walkable) k.rows_in-count.ensures c.loop-r-test.true
 
-row_requires_2 : tie.Need-row-requires-2 invariant-loop decreases-loop
+row_requires_2 : tie.Need-row-target-requires invariant-loop decreases-loop
 row_requires_2 c κs =
     let t = c.before in
     let k = t.before in
     let pre = (start k).requires in
-    let count = k.before.rows_in.ensures ∙ sym pre.1.same in
-    row_starts _ _ _ _ (last_some pre.0.walkable) count t.loop-test.true
+    let count = k.rows_in-count.ensures ∙ sym pre.1.same in
+    row_starts _ _ _ _ (last_some pre.0.walkable) count t.loop-r-test.true
 
-take_row_requires : tie.Need-take-row-requires invariant-loop decreases-loop
+take_row_requires : tie.Need-take_row-requires invariant-loop decreases-loop
 take_row_requires c κs =
     let k = asked c in
     let t = turning (read k) in
-    let pre = (start (read k).before).pre in (
+    let pre = (start (read k).before).requires in (
       still_fits t,
       still_same t,
-      ap length k.before.row.ensures ∙ t.full.inputs _ t.more,
-      ap length k.row2.ensures ∙ t.full.targets _ t.more,
+      ap length k.row-input.ensures ∙ t.full.inputs _ t.more,
+      ap length k.row-target.ensures ∙ t.full.targets _ t.more,
       pre.3,
       pre.4,
       still_clean t,
     )
 
-same_length : tie.Need-same-length invariant-loop decreases-loop
+same_length : tie.Need-shape_of-gradients-then-not-take_row invariant-loop decreases-loop
 same_length c =
     let d = stop c in
-    d.take_row.kept.1.1.1.1.1.1.1.0 ∙ (read (run d)).before.loop.inv.1.size_g
+    d.take_row.auto.gradients ∙ (read (run d)).loop-r.invariant.1.size_g
 
-same_length_2 : tie.Need-same-length-2 invariant-loop decreases-loop
+same_length_2 : tie.Need-shape_of-work-then-not-take_row invariant-loop decreases-loop
 same_length_2 c =
     let d = stop c in
-    d.take_row.kept.1.1.1.1.1.1.1.1.0 ∙ (read (run d)).before.loop.inv.1.size_w
+    d.take_row.auto.work ∙ (read (run d)).loop-r.invariant.1.size_w
 
-returns : tie.Need-returns invariant-loop decreases-loop
+returns : tie.Need-returns-then-not-take_row invariant-loop decreases-loop
 returns c =
     let d = stop c in
-    let sizes = d.take_row.kept.1.1.1.1.1.1.1 in
-    stopped (turning (read (run d))) sizes.0 sizes.1.0 (done d) (not-true _ c.if1.true)
+    let sizes = d.take_row.auto in
+    stopped (turning (read (run d))) sizes.gradients sizes.work (done d) (not-true _ c.if-not-take_row.true-raw)
 
-add_r : tie.Need-overflow-add-r invariant-loop decreases-loop
+add_r : tie.Need-overflow_step-r invariant-loop decreases-loop
 add_r c = omega arith
 
-loop_less : tie.Need-loop-smaller invariant-loop decreases-loop
+loop_less : tie.Need-loop-r-smaller invariant-loop decreases-loop
 loop_less c = omega arith
 
-loop_again : tie.Need-loop-preserved invariant-loop decreases-loop
+loop_again : tie.Need-loop-r-preserved invariant-loop decreases-loop
 loop_again c =
     let d = go_on c in
     let t = read (run d) in
-    let sizes = d.take_row.kept.1.1.1.1.1.1.1 in (
-      omega (arith, t.loop-test.taken),
-      one_row (turning t) sizes.0 sizes.1.0 (done d) (not-false _ c.if1.false),
+    let sizes = d.take_row.auto in (
+      omega (arith, t.loop-r-test.true),
+      one_row (turning t) sizes.gradients sizes.work (done d) (not-false _ c.if-not-take_row.false-raw),
     )
 
-same_length_3 : tie.Need-same-length-3 invariant-loop decreases-loop
-same_length_3 c = c.before.loop.invariant.1.size_g
+same_length_3 : tie.Need-shape_of-gradients invariant-loop decreases-loop
+same_length_3 c = c.loop-r.invariant.1.size_g
 
-same_length_4 : tie.Need-same-length-4 invariant-loop decreases-loop
-same_length_4 c = c.before.loop.invariant.1.size_w
+same_length_4 : tie.Need-shape_of-work invariant-loop decreases-loop
+same_length_4 c = c.loop-r.invariant.1.size_w
 
-returns_2 : tie.Need-returns-2 invariant-loop decreases-loop
+returns_2 : tie.Need-returns invariant-loop decreases-loop
 returns_2 c =
-    let k = c.before in
-    let e : k.loop.r ≡ k.before.rows_in.result = omega (arith, k.loop.invariant.0, c.loop-test.false) in
-    all_taken (e ∙ k.before.rows_in.ensures) k.loop.invariant.1
+    let e : c.loop-r.r ≡ c.rows_in-count.result = omega (arith, c.loop-r.invariant.0, c.loop-r-test.false) in
+    all_taken (e ∙ c.rows_in-count.ensures) c.loop-r.invariant.1
 
 pub take_rows_spec : {M : Type 1} → statement M
 take_rows_spec =

@@ -14,7 +14,7 @@ use contract.Lifetimes.{Lfts}
 use contract.Monad.{Fun, fact, fact_mono, fact_use}
 use denote.Builtin.{f32}
 use denote.Slice.{finally}
-use denote.Ref.{Bor}
+use denote.Ref.{MutBor}
 use denote.Triple.Clauses.{Lasts, at_exit}
 use denote.Triple.Entry.{Args, Res}
 use Rattle.spline.specs.declared.Grid.{Grid}
@@ -24,7 +24,7 @@ use Rattle.forward.specs.contracts.forward as forward
 
 -- `forward` spends both work slices, so the logic binds no last value for them: the statement says of either slice's
 -- name what it ends as (`finally`). Here an outcome has it as well: the part r, the last value w of the lent number,
--- and what the first slice and the second end as. A part's ghost name is the prover's own.
+-- and what the first slice and the second end as. A part is a `&`: where it lies and what it holds is all there is of it.
 module _ (κs : Lfts 5) (a : Args forward.signature κs) where
   abbrev widths : List ℕ
   widths = a.1.0.now
@@ -38,10 +38,10 @@ module _ (κs : Lfts 5) (a : Args forward.signature κs) where
   abbrev row : List Float
   row = a.1.1.1.1.0.now
 
-  abbrev first : Bor (List Float)
+  abbrev first : MutBor (List Float)
   first = a.1.1.1.1.1.0
 
-  abbrev second : Bor (List Float)
+  abbrev second : MutBor (List Float)
   second = a.1.1.1.1.1.1.0
 
   abbrev first_is : List Float
@@ -52,7 +52,7 @@ module _ (κs : Lfts 5) (a : Args forward.signature κs) where
 
   abbrev Answered : Res forward.signature κs → Lasts forward.ended κs a → Type 0
   Answered r w = Handed (net_of grid) widths grid model row first.now second.now first.ref_ptr second.ref_ptr r.now
-      r.ptr w.0
+      r.ref_ptr w.0
 
   pub record Allowed (r : Res forward.signature κs) (w : Lasts forward.ended κs a) (l m : List Float) : Type 0 where
     pub answered : Answered r w
@@ -68,8 +68,8 @@ module _ (κs : Lfts 5) (a : Args forward.signature κs) where
         p.answered.holds ∙ sym q.answered.holds,
         p.answered.lies ∙ sym q.answered.lies,
         (λ i. (number i, (tt, (tt, (tt, (tt, (tt, (tt, tt)))))))),
-        p.endsFirst ∙ sym q.endsFirst,
-        p.endsSecond ∙ sym q.endsSecond,
+        p.ends_first ∙ sym q.ends_first,
+        p.ends_second ∙ sym q.ends_second,
       )
 
   -- These are the outcomes of the statement: it says of r and w that there are lists which the slices' names end as
@@ -80,7 +80,7 @@ module _ (κs : Lfts 5) (a : Args forward.signature κs) where
     Statement = (forward.clauses 𝓛 mem run κs a).ensures tt r (at_exit forward.ended κs a w)
 
     abbrev Ends : List Float × List Float → SProp 𝓤
-    Ends e = sem 𝓛 (fsep (finally f32 first.name e.0) (finally f32 second.name e.1))
+    Ends e = sem 𝓛 (fsep (finally f32 first.ghost_name e.0) (finally f32 second.ghost_name e.1))
 
     abbrev Outcome : List Float × List Float → SProp 𝓤
     Outcome e = sep 𝓤 (Ends e) (fact 𝓤 (Allowed r w e.0 e.1))
@@ -96,5 +96,5 @@ module _ (κs : Lfts 5) (a : Args forward.signature κs) where
         from : ent 𝓤 (ex 𝓤 Outcome) Statement
         from = ex_e 𝓤 Outcome (λ e. fact_use 𝓤 (Allowed r w e.0 e.1)
             (snd∗ 𝓤 (Ends e) (fact 𝓤 (Allowed r w e.0 e.1))) (λ p. mono∗ 𝓤
-            (subst (λ (t : List Float × List Float). ent 𝓤 (Ends e) (Ends t)) (λ i. (p.endsFirst i, p.endsSecond i))
+            (subst (λ (t : List Float × List Float). ent 𝓤 (Ends e) (Ends t)) (λ i. (p.ends_first i, p.ends_second i))
             (id⊢ 𝓤 (Ends e))) (fact_mono 𝓤 (Allowed r w e.0 e.1) (Answered r w) (λ q. q.answered))))

@@ -7,47 +7,51 @@ use mathlib.Core.List.{List, [], ◌∷◌}
 use Prim.Native.Nat.{ℕ, ◌≤◌, ◌<◌, ◌^◌}
 use lib.Dec.{T as Holds}
 use lib.ListN.{length, take}
-use lib.Ieee.{Float}
+use lib.Ieee.{Float, binary32}
 use seplogic.Ra.Ura.{Ura}
-use seplogic.Ra.TreeShare.PosShare
-use seplogic.Ra.TreeShare.{full_share}
-use mir.Syntax.{named, w64, ty_int, ty_bool}
+use base.Share
+use base.Fraction.{full_share}
+use mir.Syntax.{named, w64}
 use mir.Val.{Val, WT, has_ty, vint, vbool, vptr}
 use base.Logic.{SProp, ent, emp, sep, via, fst∗, id⊢, assoc∗, comm∗, emp∗}
-use base.Fml.{Lft, GName, Share, ftrue, fsep, flft, fres, fat}
+use base.Fml.{Lft, GName, Share as Shr, ftrue, fsep, flft, fres, fbor}
 use prog.Memory.{Memory}
 use prog.Routine.{Routine}
-use prog.Wp.{Calls, Loops, WpFn, Tables}
+use prog.Wp.{Calls, Loops, WpFn}
 use types.Logic.{Logic}
 use contract.Lifetimes.{Lfts, Shares}
 use contract.Monad.{Fun, fact}
-use contract.Running.{tables, tables_of}
+use contract.Running.{tables}
 use types.Kit.{Item, mean, ⋆, ‵, raw, given, ◌⊛◌, some, later, ◌$◌, ◌∵◌, !, qed, by, move, keep, group, use1, use2, use3}
 use types.Kit.{rewrite, split, pick as picks, learn, check, fsplit, feq_l, suffices, frame, await, updating, now as at_once, show, done}
-use types.Run.{look, init, forget, stop, hop, fld, from, load, addr, and_then, no_more, assigns, land, returns, enter}
-use types.Run.{alloc1, alloc0, params1, pass1, pass0, free1, free0}
-use types.Part.{agg, whole, sub, look_in}
+use types.Run.{stop, hop, fld, from, addr, and_then, no_more, returns, enter}
+use types.ByLocal.{alloc_all, pass_all, free_all, look_at, look_in_at, get, get_in, through, sets, lands_as}
+use types.Part.{agg, whole, sub}
+use types.SemTy.{Body}
 use types.Tokens.{lft_new, lft_end}
-use sound.WpLaws.{FmC, fm_of, WpFn-mono}
+use sound.WpLaws.{FmC}
 use denote.RattleType.{owns}
+use denote.Memory.{mem as in_memory}
 use denote.Laws.{Is, shows}
-use denote.Plain.{uint_Makes, uint_Lawful, bool_Makes, bool_Lawful, Boolean}
+use denote.Plain.{uint_Makes, uint_row_laws, bool_Makes, Boolean}
+use denote.Floats.{float_row_laws}
 use denote.Builtin.{f32, u32, usize}
-use denote.Ref.{Bor, MutBor, MutRef, shr_vals, mut_Tells}
-use denote.Slice.{slice_val, finally, MutSlice, ShrSlice, Room, shr_slice_vals, mut_slice_Tells}
-use denote.Slice.{shr_slice_Tells, shr_slice_copy, shr_slice_Lawful}
+use denote.Ref.{Bor, MutBor, MutRef, mut_vals, mut_Tells}
+use denote.Slice.{slice_val, finally, MutSlice, ShrSlice, Room, mut_slice_vals, mut_slice_Tells}
+use denote.Slice.{shr_slice_vals, shr_slice_Tells, shr_slice_copy, shr_slice_Lawful}
 use denote.Struct.Laws as struct
 use denote.Signature.{plain, mut_slice_of}
 use denote.Steps.{only, owned, peeks, heard, nothing}
 use denote.Triple.Entry.{on_entry}
-use denote.Triple.Spec.{Meets, triple_of}
+use denote.Triple.Spec.{triple_of}
 use denote.Triple.Statement.{Contract, Triple}
 use denote.Triple.Call.{calls_at}
 use denote.Triple.Clauses.{ensured, lasts}
-use denote.Triple.Table.{entered, cited}
-use denote.Triple.Walked.{on_exit, says, Stays, stay_none, stay_none_slice, stay_dropped, gave_ref, walk_of, Walks}
-use denote.Triple.Walked.{ends_at, walked, walk_Meets, Goes-none, Goes-none_slice, Goes-gave_ref, Goes-spent_slice}
+use denote.Triple.Table.{framed}
+use denote.Triple.Walked.{on_exit, says, Stays, stay_none, stay_none_slice, stay_dropped, gave_ref, walk_of}
+use denote.Triple.Walked.{ends_at, Goes-none, Goes-none_slice, Goes-gave_ref, Goes-spent_slice}
 use denote.Exit.{yes, no}
+use Rattle.std.proofs.raw_atomic.Walks.{proved}
 use Rattle.spline.specs.declared.Grid.{Grid}
 use Rattle.spline.specs.contracts.Grid as grid
 use Rattle.spline.proofs.Grid.TheLaws as grid-laws
@@ -57,15 +61,12 @@ use Rattle.forward.specs.Steps.{Forwarded}
 use Rattle.forward.proofs.Passing.{part_is}
 use Rattle.either_front.proofs.Again.{LentAgain, lends_again, comes_back}
 use Rattle.forward.specs.contracts.work as work
-use Rattle.forward.proofs.work.Symbol as work-def
 use Rattle.forward.proofs.work.Symbol.{name as #work}
 use Rattle.forward.proofs.work.Met as work-thm
 use Rattle.forward.specs.contracts.lies_in_first as lies
-use Rattle.forward.proofs.lies_in_first.Symbol as lies-def
 use Rattle.forward.proofs.lies_in_first.Symbol.{name as #lies}
 use Rattle.forward.proofs.lies_in_first.Met as lies-thm
 use Rattle.either_front.specs.contracts.pick as pick
-use Rattle.either_front.proofs.pick.Symbol as pick-def
 use Rattle.either_front.proofs.pick.Symbol.{name as #pick}
 use Rattle.either_front.proofs.pick.Met as pick-thm
 use Rattle.forward.specs.contracts.forward.Key.{name as #forward}
@@ -117,8 +118,8 @@ module _ {M : Type 1} {𝓤 : Ura M} (𝓛 : Logic 𝓤) (mem : Memory → SProp
   PickC = triple_of 𝓛 pick.signature (pick.spec 𝓛 mem run)
 
 module _ {M : Type 1} {𝓤 : Ura M} (𝓛 : Logic 𝓤) (mem : Memory → SProp 𝓤) (run : Routine → Fun 𝓤)
-    (κ₀ κ₁ κ₂ κ₃ κ : Lft) (q₀ q₁ q₂ q₃ q : Share) (bc oc : ℕ) (γc : GName) (c₀ : ℕ) (wx : MutBor (List ℕ)) (g : Grid)
-    (mx rx : MutBor (List Float)) (ba oa : ℕ) (γa : GName) (xs : List Float) (bb ob : ℕ) (γb : GName) (ys : List Float) where
+    (κ₀ κ₁ κ₂ κ₃ κ : Lft) (q₀ q₁ q₂ q₃ q : Shr) (bc oc : ℕ) (γc : GName) (c₀ : ℕ) (wx : Bor (List ℕ)) (g : Grid)
+    (mx rx : Bor (List Float)) (ba oa : ℕ) (γa : GName) (xs : List Float) (bb ob : ℕ) (γb : GName) (ys : List Float) where
   -- ---- the arguments, their machine values, and what is owned of them
   open 𝓛 use {H}
 
@@ -132,8 +133,8 @@ module _ {M : Type 1} {𝓤 : Ura M} (𝓛 : Logic 𝓤) (mem : Memory → SProp
   y δ l = record { ref_ptr = (bb, ob); ghost_name = δ; now = l }
 
   abbrev Args : Type 0
-  Args = Bor ℕ × (Bor (List ℕ) × (Grid × (Bor (List Float) ×
-      (Bor (List Float) × (Bor (List Float) × (Bor (List Float) × Unit {0}))))))
+  Args = MutBor ℕ × (Bor (List ℕ) × (Grid × (Bor (List Float) ×
+      (Bor (List Float) × (MutBor (List Float) × (MutBor (List Float) × Unit {0}))))))
 
   abbrev arg : GName → GName → Args
   arg δa δb = (cx, (wx, (g, (mx, (rx, (x δa xs, (y δb ys, tt)))))))
@@ -171,14 +172,18 @@ module _ {M : Type 1} {𝓤 : Ura M} (𝓛 : Logic 𝓤) (mem : Memory → SProp
   abbrev qs : Shares 5
   qs = (q₀, (q₁, (q₂, (q₃, (q, tt)))))
 
-  abbrev ql : Share
-  ql = PosShare.left q
+  abbrev ql : Shr
+  ql = Share.left q
 
-  abbrev qr : Share
-  qr = PosShare.right q
+  abbrev qr : Shr
+  qr = Share.right q
 
   abbrev Number : Item 𝓤
   Number = ‵ ((MutRef (named 0) κ₀ u32).own_val cx (vc ∷ []))
+
+  -- what is had of the number once `work` has written it: its last value, and its borrow
+  abbrev LastNumber : ℕ → Item 𝓤
+  LastNumber k = ‵ (fsep (fres γc (u32.coded.code k)) (fbor κ₀ (Body (in_memory u32) bc oc γc)))
 
   abbrev Widths : Item 𝓤
   Widths = ‵ ((ShrSlice (named 1) κ₁ usize).own_val wx (vw ∷ []))
@@ -212,11 +217,11 @@ module _ {M : Type 1} {𝓤 : Ura M} (𝓛 : Logic 𝓤) (mem : Memory → SProp
   shared_twice : ent 𝓤 (mean 𝓛 Shared) (mean 𝓛 (Shared ⊛ Shared))
   shared_twice =
       qed 𝓛 (Shared ∷ []) ∵ split ! $
-      use1 𝓛 (Widths ⊛ Widths) ((shr_slice_copy 𝓛 (named 1) κ₁ usize).twice wx (vw ∷ [])) $ split ! $ move ! (2 ∷ []) $ split ! $
+      use1 𝓛 (Widths ⊛ Widths) ((shr_slice_copy 𝓛 (named 1) κ₁ usize (uint_row_laws w64)).twice wx (vw ∷ [])) $ split ! $ move ! (2 ∷ []) $ split ! $
       use1 𝓛 (TheGrid ⊛ TheGrid) ((struct.copy grid.the_type grid-laws.the_copy 𝓛).twice g (vg ∷ [])) $ split ! $
       move ! (2 ∷ []) $ split ! $
-      use1 𝓛 (Model ⊛ Model) ((shr_slice_copy 𝓛 (named 2) κ₂ f32).twice mx (vm ∷ [])) $ split ! $ move ! (2 ∷ []) $
-      use1 𝓛 (Row ⊛ Row) ((shr_slice_copy 𝓛 (named 3) κ₃ f32).twice rx (vr ∷ [])) $ split ! $
+      use1 𝓛 (Model ⊛ Model) ((shr_slice_copy 𝓛 (named 2) κ₂ f32 (float_row_laws binary32)).twice mx (vm ∷ [])) $ split ! $ move ! (2 ∷ []) $
+      use1 𝓛 (Row ⊛ Row) ((shr_slice_copy 𝓛 (named 3) κ₃ f32 (float_row_laws binary32)).twice rx (vr ∷ [])) $ split ! $
       -- [row; row; model; model; grid; grid; widths; widths]
       move ! (6 ∷ 4 ∷ 2 ∷ 0 ∷ []) $ group ! 4 $ frame ! $ move ! (3 ∷ 2 ∷ 1 ∷ 0 ∷ []) $ done !
 
@@ -266,7 +271,7 @@ module _ {M : Type 1} {𝓤 : Ura M} (𝓛 : Logic 𝓤) (mem : Memory → SProp
 
     abbrev Has : Left → Item 𝓤
     Has z =
-        Quiet ⊛ (‵ (flft κ₁ q₁) ⊛ (Token₁ ⊛ (Token₂ ⊛ (‵ (fres γc (u32.coded.code z.number))
+        Quiet ⊛ (‵ (flft κ₁ q₁) ⊛ (Token₁ ⊛ (Token₂ ⊛ (LastNumber z.number
         ⊛ (‵ (finally f32 δa z.first) ⊛ ‵ (finally f32 δb z.second))))))
 
     abbrev Gave : Val → Item 𝓤
@@ -295,16 +300,16 @@ module _ {M : Type 1} {𝓤 : Ura M} (𝓛 : Logic 𝓤) (mem : Memory → SProp
         split ! $ move ! (1 ∷ []) $ heard ! (Did (left n zs)) (λ e.
         -- [the last values; the tokens and the result]
         fsplit ! $ move ! (1 ∷ []) $ fsplit ! $ move ! (1 ∷ []) $ fsplit ! $ move ! (1 ∷ []) $ fsplit ! $ move ! (1 ∷ []) $ fsplit ! $
-        move ! (1 ∷ []) $ fsplit ! $ fsplit ! $ move ! (1 ∷ []) $ feq_l ! (λ la. move ! (1 ∷ []) $ fsplit ! $ fsplit ! $
-        move ! (1 ∷ []) $ feq_l ! (λ lb.
-        -- [second; true; first; true for row, model, grid and widths; number; the tokens and the result]
-        move ! (8 ∷ []) $ split ! $ move ! (1 ∷ []) $ peeks ! usize (Is usize) (shows 𝓛 usize) n (w ∷ []) (λ is.
+        move ! (1 ∷ []) $ fsplit ! $ fsplit ! $ fsplit ! $ move ! (1 ∷ []) $ feq_l ! (λ la. move ! (2 ∷ []) $ fsplit ! $
+        fsplit ! $ fsplit ! $ move ! (1 ∷ []) $ feq_l ! (λ lb.
+        -- [second; its borrow; true; first; its borrow; true for row, model, grid and widths; number; the tokens and the result]
+        move ! (10 ∷ []) $ split ! $ move ! (1 ∷ []) $ peeks ! usize (Is usize) (shows 𝓛 usize) n (w ∷ []) (λ is.
         move ! (1 ∷ []) $ split ! $ move ! (1 ∷ []) $ split ! $ move ! (1 ∷ []) $ split ! $ move ! (1 ∷ []) $ split ! $
         move ! (1 ∷ []) $ split ! $ move ! (1 ∷ []) $ split ! $ move ! (6 ∷ 4 ∷ 3 ∷ []) $ group ! 3 $
-        -- [quiet; ν₂; true; ν₁; κ₁; the result; second; true; first; true four times; number]
+        -- [quiet; ν₂; true; ν₁; κ₁; the result; second; its borrow; true; first; its borrow; true four times; number]
         at_once ! $ show ! (λ (z : Left). mean 𝓛 (given (Worked Did xs ys w z) (Has z))) (left n zs) $
         check ! (record { value = is.0; fits = is.1; did = e; length_first = la; length_second = lb }) $
-        keep ! (0 ∷ 4 ∷ 3 ∷ 1 ∷ 13 ∷ 8 ∷ 6 ∷ []) $ done !))))))
+        keep ! (0 ∷ 4 ∷ 3 ∷ 1 ∷ 15 ∷ 9 ∷ 6 ∷ []) $ done !))))))
 
   -- ---- the call of `lies_in_first`
   abbrev here : Bool
@@ -331,7 +336,7 @@ module _ {M : Type 1} {𝓤 : Ura M} (𝓛 : Logic 𝓤) (mem : Memory → SProp
   gives_lies : (w : Val) → ent 𝓤 ((LiesC 𝓛 mem run).post to_lies w) (mean 𝓛 (Told w))
   gives_lies w =
       qed 𝓛 (raw ((LiesC 𝓛 mem run).post to_lies w) ∷ []) ∵ updating ! $
-      use1 𝓛 (later (some (λ (f : Bool). ((‵ (flft κ₁ q₁) ⊛ ‵ ftrue) ⊛ ‵ (Boolean.own f (w ∷ [])))
+      use1 𝓛 (later (some (λ (f : Bool). ((‵ (flft κ₁ q₁) ⊛ ‵ ftrue) ⊛ ‵ (Boolean.own_val f (w ∷ [])))
       ⊛ raw (LiesEnsured f)))) (id⊢ 𝓤 _) $
       await ! tt $ picks ! (λ f. split ! $ move ! (1 ∷ []) $
       use1 𝓛 (some (λ (zs : Unit {0} × Unit {0}). ‵ (lasts lies.ended (κ₁, tt) (wx, tt) zs) ⊛ raw (fact 𝓤 (f ≡ here)))) (id⊢ 𝓤 _) $
@@ -348,7 +353,7 @@ module _ {M : Type 1} {𝓤 : Ura M} (𝓛 : Logic 𝓤) (mem : Memory → SProp
 
   module _ (z : Left) (n-fits : z.n < 2 ^ 64) where
     abbrev PickArgs : Type 0
-    PickArgs = Bool × (ℕ × (Bor (List Float) × (Bor (List Float) × Unit {0})))
+    PickArgs = Bool × (ℕ × (MutBor (List Float) × (MutBor (List Float) × Unit {0})))
 
     abbrev picked : PickArgs
     picked = (here, (z.n, (x γa z.first, (y γb z.second, tt))))
@@ -399,7 +404,7 @@ module _ {M : Type 1} {𝓤 : Ura M} (𝓛 : Logic 𝓤) (mem : Memory → SProp
   module _ (w : Val) (r : Bor (List Float)) (z : Left) where
     abbrev Out : List (Item 𝓤)
     Out =
-        BothEnd z.first z.second ∷ Quiet ∷ ‵ (flft κ₁ q₁) ∷ ‵ (flft κ q) ∷ ‵ (fres γc (u32.coded.code z.number)) ∷ Shared
+        BothEnd z.first z.second ∷ Quiet ∷ ‵ (flft κ₁ q₁) ∷ ‵ (flft κ q) ∷ LastNumber z.number ∷ Shared
         ∷ Part w r ∷ []
 
     exits : (n-fits : z.n < 2 ^ 64) → Did z → Fronts z n-fits r → ent 𝓤 (⋆ 𝓛 Out) (Post w)
@@ -457,154 +462,95 @@ module _ {M : Type 1} {𝓤 : Ura M} (𝓛 : Logic 𝓤) (mem : Memory → SProp
         → Room f32 (length ys) → Holds (has_ty grid-laws.mir vg) × WT vg → ent 𝓤 (on_entry 𝓛 forward.signature κs qs (arg γa γb) at)
         (WpFn 𝓤 H C Λ code.function (vc ∷ vw ∷ vg ∷ vm ∷ vr ∷ va ∷ vb ∷ []) Post)
     walk rw' rm rr ra rb typed =
-        qed 𝓛 (Tokens₅ ∷ Owned ∷ []) ∵ enter ! C Λ code.function (vc ∷ vw ∷ vg ∷ vm ∷ vr ∷ va ∷ vb ∷ []) _ $
-        alloc1 ! (λ l0. alloc1 ! (λ l1. alloc1 ! (λ l2. alloc1 ! (λ l3. alloc1 ! (λ l4. alloc1 ! (λ l5. alloc1 ! (λ l6. alloc1 ! (λ l7.
-        alloc1 ! (λ l8. alloc1 ! (λ l9. alloc1 ! (λ l10. alloc1 ! (λ l11. alloc1 ! (λ l12. alloc1 ! (λ l13. alloc1 ! (λ l14.
-        alloc1 ! (λ l15. alloc1 ! (λ l16. alloc1 ! (λ l17. alloc1 ! (λ l18. alloc0 ! $ params1 ! $
-        pass1 ! (init ! 34 refl (tt, tt)) $ pass1 ! (init ! 32 refl (tt, (tt, (record { fits = rw'.0 }, tt)))) $
-        pass1 ! (init ! 30 refl typed) $ pass1 ! (init ! 28 refl (tt, (tt, (record { fits = rm.0 }, tt)))) $
-        pass1 ! (init ! 26 refl (tt, (tt, (record { fits = rr.0 }, tt)))) $
-        pass1 ! (init ! 24 refl (tt, (tt, (record { fits = ra.0 }, tt)))) $
-        pass1 ! (init ! 22 refl (tt, (tt, (record { fits = rb.0 }, tt)))) $ pass0 ! $
-        -- the number and both slices are lent again
-        assigns ! (addr ! (from ! (hop ! (look ! 34 refl) (stop !)))) (from ! (stop !)) (init ! 16 refl (tt, tt)) $
-        assigns ! (addr ! (from ! (fld ! refl (hop ! (look_in ! 24 (sub ! 0 refl (whole !))) (stop !))))) (from ! (stop !))
-        (init ! 14 refl (tt, tt)) $
-        assigns ! (agg ! (and_then ! (load ! (from ! (stop !)) (look ! 14 refl))
-        (and_then ! (load ! (from ! (fld ! refl (stop !))) (look_in ! 24 (sub ! 1 refl (whole !)))) (no_more !))))
-        (from ! (stop !)) (init ! 12 refl (tt, (tt, (record { fits = ra.0 }, tt)))) $
-        assigns ! (addr ! (from ! (fld ! refl (hop ! (look_in ! 22 (sub ! 0 refl (whole !))) (stop !))))) (from ! (stop !))
-        (init ! 10 refl (tt, tt)) $
-        assigns ! (agg ! (and_then ! (load ! (from ! (stop !)) (look ! 10 refl))
-        (and_then ! (load ! (from ! (fld ! refl (stop !))) (look_in ! 22 (sub ! 1 refl (whole !)))) (no_more !))))
-        (from ! (stop !)) (init ! 8 refl (tt, (tt, (record { fits = rb.0 }, tt)))) $
-        move ! (39 ∷ []) $ fsplit ! $ move ! (1 ∷ []) $ fsplit ! $ move ! (1 ∷ []) $ fsplit ! $ move ! (1 ∷ []) $ fsplit ! $
+        qed 𝓛 (Tokens₅ ∷ Owned ∷ []) ∵
+        move ! (1 ∷ []) $ fsplit ! $ move ! (1 ∷ []) $ fsplit ! $ move ! (1 ∷ []) $ fsplit ! $ move ! (1 ∷ []) $ fsplit ! $
         move ! (1 ∷ []) $ fsplit ! $ move ! (1 ∷ []) $ fsplit ! $ move ! (1 ∷ []) $ fsplit ! $
-        move ! (46 ∷ []) $ split ! $ move ! (1 ∷ []) $ split ! $ move ! (1 ∷ []) $ split ! $ move ! (1 ∷ []) $ split ! $ move ! (1 ∷ []) $
+        move ! (8 ∷ []) $ split ! $ move ! (1 ∷ []) $ split ! $ move ! (1 ∷ []) $ split ! $ move ! (1 ∷ []) $ split ! $ move ! (1 ∷ []) $
         split ! $
-        -- [κ; true; κ₃; κ₂; κ₁; κ₀; second; true; first; row; model; grid; widths; number; the locals from 14 on]
+        -- [κ; true; κ₃; κ₂; κ₁; κ₀; second; true; first; row; model; grid; widths; number]
         move ! (12 ∷ 11 ∷ 10 ∷ 9 ∷ []) $ group ! 4 $ use1 𝓛 (Shared ⊛ Shared) shared_twice $ split ! $
         use1 𝓛 (Shared ⊛ Shared) shared_twice $ split ! $
         move ! (8 ∷ 6 ∷ 5 ∷ []) $ group ! 3 $ move ! (4 ∷ []) $ use1 𝓛 (‵ (flft κ ql) ⊛ ‵ (flft κ qr)) (𝓛.lfts.lft_split κ q) $ split ! $
-        -- [κl; κr; quiet; shared; shared; shared; true; κ₁; second; true; first; number; the locals from 12 on]
-        lft_new ! tt (λ ν₁. move ! (11 ∷ 1 ∷ []) $
+        -- [κl; κr; quiet; shared; shared; shared; true; κ₁; second; true; first; number]
+        keep ! (0 ∷ 1 ∷ 2 ∷ 3 ∷ 4 ∷ 5 ∷ 7 ∷ 8 ∷ 10 ∷ 11 ∷ []) $
+        enter ! C Λ code.function (vc ∷ vw ∷ vg ∷ vm ∷ vr ∷ va ∷ vb ∷ []) _ $
+        alloc_all ! (λ l. pass_all ! refl (
+          (tt, tt),
+          (
+            (tt, (tt, (record { fits = rw'.0 }, tt))),
+            (
+              typed,
+              (
+                (tt, (tt, (record { fits = rm.0 }, tt))),
+                (
+                  (tt, (tt, (record { fits = rr.0 }, tt))),
+                  ((tt, (tt, (record { fits = ra.0 }, tt))), ((tt, (tt, (record { fits = rb.0 }, tt))), tt)),
+                ),
+              ),
+            ),
+          ),
+        ) $
+        -- the number and both slices are lent again: of a slice the pointer, then the slice
+        sets ! (addr ! (through ! refl (stop !))) refl (tt, tt) $
+        sets ! (addr ! (from ! (fld ! refl (hop ! (look_in_at ! 6 (sub ! 0 refl (whole !))) (stop !))))) refl (tt, tt) $
+        sets ! (agg ! (and_then ! (get ! refl) (and_then ! (get_in ! (fld ! refl (stop !)) (sub ! 1 refl (whole !))) (no_more !))))
+        refl (tt, (tt, (record { fits = ra.0 }, tt))) $
+        sets ! (addr ! (from ! (fld ! refl (hop ! (look_in_at ! 7 (sub ! 0 refl (whole !))) (stop !))))) refl (tt, tt) $
+        sets ! (agg ! (and_then ! (get ! refl) (and_then ! (get_in ! (fld ! refl (stop !)) (sub ! 1 refl (whole !))) (no_more !))))
+        refl (tt, (tt, (record { fits = rb.0 }, tt))) $
+        -- [κl; κr; quiet; shared; shared; shared; κ₁; second; first; number; the locals]
+        lft_new ! tt (λ ν₁. move ! (9 ∷ 1 ∷ []) $
         use2 𝓛 (later (some (λ (δa : GName). First (ν₁ ∷ []) δa xs ⊛ FirstAgain ν₁ δa)))
         (lends_again f32 κ (ν₁ ∷ []) ql γa ba oa 𝓛 (named 4) (named 4) xs) $ await ! tt $ picks ! (λ δa. split ! $
-        lft_new ! tt (λ ν₂. move ! (11 ∷ 4 ∷ []) $
+        lft_new ! tt (λ ν₂. move ! (10 ∷ 4 ∷ []) $
         use2 𝓛 (later (some (λ (δb : GName). Second (ν₂ ∷ []) δb ys ⊛ SecondAgain ν₂ δb)))
         (lends_again f32 κ (ν₂ ∷ []) qr γb bb ob 𝓛 (named 4) (named 4) ys) $ await ! tt $ picks ! (λ δb. split ! $
-        -- [second again; lent second; ν₂; first again; lent first; ν₁; quiet; shared; shared; shared; true; κ₁; true; number; the locals
-        -- from 14 on]
-        move ! (6 ∷ 11 ∷ 5 ∷ 2 ∷ 13 ∷ 7 ∷ 3 ∷ 0 ∷ []) $ group ! 8 $
+        -- [lent second; second again; ν₂; lent first; first again; ν₁; quiet; shared; shared; shared; κ₁; number; the locals]
+        move ! (6 ∷ 10 ∷ 5 ∷ 2 ∷ 11 ∷ 7 ∷ 3 ∷ 0 ∷ []) $ group ! 8 $
         use1 𝓛 (raw ((WorkC 𝓛 mem run).pre (to_work ν₁ ν₂ δa δb))) (goes_work ν₁ ν₂ δa δb) $
+        -- [what `work` asks; second again; first again; shared; shared; the locals]
         calls_at ! fm (WorkC 𝓛 mem run) known (to_work ν₁ ν₂ δa δb)
-        (and_then ! (load ! (from ! (stop !)) (look ! 23 refl)) (and_then ! (load ! (from ! (stop !)) (look ! 39 refl))
-        (and_then ! (load ! (from ! (stop !)) (look ! 37 refl)) (and_then ! (load ! (from ! (stop !)) (look ! 35 refl))
-        (and_then ! (load ! (from ! (stop !)) (look ! 33 refl)) (and_then ! (load ! (from ! (stop !)) (look ! 19 refl))
-        (and_then ! (load ! (from ! (stop !)) (look ! 15 refl)) (no_more !)))))))) (λ w.
+        (and_then ! (get ! refl) (and_then ! (get ! refl) (and_then ! (get ! refl) (and_then ! (get ! refl) (and_then ! (get ! refl)
+        (and_then ! (get ! refl) (and_then ! (get ! refl) (no_more !)))))))) (λ w.
         use1 𝓛 (Gave ν₁ ν₂ δa δb w) (gives_work ν₁ ν₂ δa δb w) $ await ! tt $ picks ! (λ z. learn ! (λ e.
         split ! $ move ! (1 ∷ []) $ split ! $ move ! (1 ∷ []) $ split ! $ move ! (1 ∷ []) $ split ! $ move ! (1 ∷ []) $ split ! $
         move ! (1 ∷ []) $ split ! $
-        -- [first ends; second ends; number; ν₂; ν₁; κ₁; quiet; lent second; lent first; shared; shared; true; true; the locals from 13 on]
-        land ! (from ! (stop !)) (init ! 33 refl ((uint_Lawful 𝓛 w64).typed z.n _ (e.value, e.fits)).0) $
-        rewrite ! 33 (λ (u : Val). ‵ (fat full_share (ty_int w64) l8 0 u)) (ap only e.value) refl $
+        -- [first ends; second ends; number; ν₂; ν₁; κ₁; quiet; second again; first again; shared; shared; the locals]
+        lands_as ! (ap only e.value) refl (tt, record { fits = e.fits }) $
         move ! (3 ∷ []) $ lft_end ! tt $ move ! (0 ∷ 7 ∷ 2 ∷ []) $ use3 𝓛 (later (Second κ γb z.second ⊛ ‵ (flft κ qr)))
         (comes_back f32 κ (ν₂ ∷ []) qr γb bb ob 𝓛 (named 4) (named 4) ys δb z.second rb e.length_second) $ await ! tt $ split ! $
         move ! (4 ∷ []) $ lft_end ! tt $ move ! (0 ∷ 7 ∷ 3 ∷ []) $ use3 𝓛 (later (First κ γa z.first ⊛ ‵ (flft κ ql)))
         (comes_back f32 κ (ν₁ ∷ []) ql γa ba oa 𝓛 (named 4) (named 4) xs δa z.first ra e.length_first) $ await ! tt $ split ! $
         move ! (1 ∷ 3 ∷ []) $ use2 𝓛 (‵ (flft κ q)) (𝓛.lfts.lft_join κ q) $
-        -- [κ; first; second; number; κ₁; quiet; shared; shared; true; true; the locals from 10 on]
+        -- [κ; first; second; number; κ₁; quiet; shared; shared; the locals]
         move ! (4 ∷ 6 ∷ []) $ use2 𝓛 (raw ((LiesC 𝓛 mem run).pre to_lies)) goes_lies $
-        calls_at ! fm (LiesC 𝓛 mem run) known₁ to_lies
-        (and_then ! (load ! (from ! (stop !)) (look ! 41 refl)) (no_more !)) (λ w₁.
+        calls_at ! fm (LiesC 𝓛 mem run) known₁ to_lies (and_then ! (get ! refl) (no_more !)) (λ w₁.
         use1 𝓛 (Told w₁) (gives_lies w₁) $ await ! tt $ learn ! (λ e₁.
-        -- [κ₁; κ; first; second; number; quiet; shared; true; true; the locals from 9 on]
-        land ! (from ! (stop !)) (init ! 27 refl ((bool_Lawful 𝓛).typed here _ e₁).0) $
-        rewrite ! 27 (λ (u : Val). ‵ (fat full_share ty_bool l9 0 u)) (ap only e₁) refl $
-        assigns ! (addr ! (from ! (fld ! refl (hop ! (look_in ! 33 (sub ! 0 refl (whole !))) (stop !))))) (from ! (stop !))
-        (init ! 15 refl (tt, tt)) $
-        assigns ! (agg ! (and_then ! (load ! (from ! (stop !)) (look ! 15 refl))
-        (and_then ! (load ! (from ! (fld ! refl (stop !))) (look_in ! 33 (sub ! 1 refl (whole !)))) (no_more !))))
-        (from ! (stop !)) (init ! 13 refl (tt, (tt, (record { fits = ra.0 }, tt)))) $
-        assigns ! (addr ! (from ! (fld ! refl (hop ! (look_in ! 31 (sub ! 0 refl (whole !))) (stop !))))) (from ! (stop !))
-        (init ! 11 refl (tt, tt)) $
-        assigns ! (agg ! (and_then ! (load ! (from ! (stop !)) (look ! 11 refl))
-        (and_then ! (load ! (from ! (fld ! refl (stop !))) (look_in ! 31 (sub ! 1 refl (whole !)))) (no_more !))))
-        (from ! (stop !)) (init ! 9 refl (tt, (tt, (record { fits = rb.0 }, tt)))) $
+        -- [κ₁; κ; first; second; number; quiet; shared; the locals]
+        lands_as ! (ap only e₁) refl (tt, tt) $
+        sets ! (addr ! (from ! (fld ! refl (hop ! (look_in_at ! 6 (sub ! 0 refl (whole !))) (stop !))))) refl (tt, tt) $
+        sets ! (agg ! (and_then ! (get ! refl) (and_then ! (get_in ! (fld ! refl (stop !)) (sub ! 1 refl (whole !))) (no_more !))))
+        refl (tt, (tt, (record { fits = ra.0 }, tt))) $
+        sets ! (addr ! (from ! (fld ! refl (hop ! (look_in_at ! 7 (sub ! 0 refl (whole !))) (stop !))))) refl (tt, tt) $
+        sets ! (agg ! (and_then ! (get ! refl) (and_then ! (get_in ! (fld ! refl (stop !)) (sub ! 1 refl (whole !))) (no_more !))))
+        refl (tt, (tt, (record { fits = rb.0 }, tt))) $
         move ! (1 ∷ 2 ∷ 3 ∷ []) $ use3 𝓛 (raw ((PickC 𝓛 mem run).pre (to_pick z e.fits)))
         (goes_pick z e.fits e.did.within_first e.did.within_second) $
-        -- [what `pick` asks; κ₁; number; quiet; shared; true; true; the locals from 7 on]
+        -- [what `pick` asks; κ₁; number; quiet; shared; the locals]
         calls_at ! fm (PickC 𝓛 mem run) known₂ (to_pick z e.fits)
-        (and_then ! (load ! (from ! (stop !)) (look ! 25 refl)) (and_then ! (load ! (from ! (stop !)) (look ! 27 refl))
-        (and_then ! (load ! (from ! (stop !)) (look ! 11 refl)) (and_then ! (load ! (from ! (stop !)) (look ! 7 refl))
-        (no_more !))))) (λ w₂.
+        (and_then ! (get ! refl) (and_then ! (get ! refl) (and_then ! (get ! refl) (and_then ! (get ! refl) (no_more !))))) (λ w₂.
         use1 𝓛 (Got z e.fits w₂) (gives_pick z e.fits w₂) $ await ! tt $ picks ! (λ r. learn ! (λ e₂. split ! $ move ! (1 ∷ []) $
         split ! $
-        -- [part; both end; κ; κ₁; number; quiet; shared; true; true; the locals from 9 on]
+        -- [part; both end; κ; κ₁; number; quiet; shared; the locals]
         peeks ! (ShrSlice (named 4) κ f32) (Is (ShrSlice (named 4) κ f32)) (shows 𝓛 (ShrSlice (named 4) κ f32)) r (w₂ ∷ []) (λ is.
-        land ! (from ! (stop !)) (init ! 45 refl ((shr_slice_Lawful 𝓛 (named 4) κ f32).typed r _ is).0) $ returns ! (look ! 45 refl) $
-        forget ! 9 refl $ forget ! 11 refl $ forget ! 13 refl $ forget ! 15 refl $ forget ! 17 refl $ forget ! 19 refl $ forget ! 21 refl $
-        forget ! 23 refl $ forget ! 25 refl $ forget ! 27 refl $ forget ! 29 refl $ forget ! 31 refl $ forget ! 33 refl $ forget ! 35 refl $
-        forget ! 37 refl $ forget ! 39 refl $ forget ! 41 refl $ forget ! 43 refl $ forget ! 45 refl $
-        move ! (45 ∷ 46 ∷ []) $ free1 ! $ move ! (43 ∷ 44 ∷ []) $ free1 ! $ move ! (41 ∷ 42 ∷ []) $ free1 ! $
-        move ! (39 ∷ 40 ∷ []) $ free1 ! $ move ! (37 ∷ 38 ∷ []) $ free1 ! $ move ! (35 ∷ 36 ∷ []) $ free1 ! $
-        move ! (33 ∷ 34 ∷ []) $ free1 ! $ move ! (31 ∷ 32 ∷ []) $ free1 ! $ move ! (29 ∷ 30 ∷ []) $ free1 ! $
-        move ! (27 ∷ 28 ∷ []) $ free1 ! $ move ! (25 ∷ 26 ∷ []) $ free1 ! $ move ! (23 ∷ 24 ∷ []) $ free1 ! $
-        move ! (21 ∷ 22 ∷ []) $ free1 ! $ move ! (19 ∷ 20 ∷ []) $ free1 ! $ move ! (17 ∷ 18 ∷ []) $ free1 ! $
-        move ! (15 ∷ 16 ∷ []) $ free1 ! $ move ! (13 ∷ 14 ∷ []) $ free1 ! $ move ! (11 ∷ 12 ∷ []) $ free1 ! $
-        move ! (9 ∷ 10 ∷ []) $ free1 ! $ free0 ! $
-        keep ! (1 ∷ 5 ∷ 3 ∷ 2 ∷ 4 ∷ 6 ∷ 0 ∷ []) $
-        by ! (exits w₂ r z e.fits e.did e₂)))))))))))))))))))))))))))))))))
+        lands_as ! refl refl ((shr_slice_Lawful 𝓛 (named 4) κ f32).typed r _ is).0 $
+        returns ! (look_at ! 0 refl) $ free_all ! refl $
+        keep ! (1 ∷ 5 ∷ 3 ∷ 2 ∷ 4 ∷ 6 ∷ 0 ∷ []) $ by ! (exits w₂ r z e.fits e.did e₂)))))))))))))))
 
-module _ {M : Type 1} {𝓤 : Ura M} (𝓛 : Logic 𝓤) (mem : Memory → SProp 𝓤) (run : Routine → Fun 𝓤) where
-  open 𝓛 use {H}
-
-  forward_walks : (C : Calls 𝓤 H) (Λ : Loops 𝓤 H) → FmC 𝓤 H 𝓛.laws C → Triple 𝓤 (C #work) (WorkC 𝓛 mem run)
-      → Triple 𝓤 (C #lies) (LiesC 𝓛 mem run) → Triple 𝓤 (C #pick) (PickC 𝓛 mem run)
-      → Walks 𝓛 forward.ended stayed (WpFn 𝓤 H C Λ code.function) (forward.clauses 𝓛 mem run)
-  forward_walks C Λ fm known known₁ known₂ =
-      walked 𝓛 forward.ended stayed (forward.clauses 𝓛 mem run) (WpFn 𝓤 H C Λ code.function)
-      (λ κs. (
-        shr_vals,
-        (
-          shr_slice_vals,
-          (
-            struct.vals grid.the_type grid-laws.the_laws,
-            (shr_slice_vals, (shr_slice_vals, (shr_slice_vals, (shr_slice_vals, tt)))),
-          ),
-        ),
-      ))
-      (λ κs. (
-        mut_Tells (named 0) κs.0 u32,
-        (
-          shr_slice_Tells (named 1) κs.1.0 usize,
-          (
-            struct.tells grid.the_type grid-laws.the_laws,
-            (
-              shr_slice_Tells (named 2) κs.1.1.0 f32,
-              (
-                shr_slice_Tells (named 3) κs.1.1.1.0 f32,
-                (mut_slice_Tells (named 4) κs.1.1.1.1.0 f32, (mut_slice_Tells (named 4) κs.1.1.1.1.0 f32, tt)),
-              ),
-            ),
-          ),
-        ),
-      ))
-      (λ κs qs bounds a g are. via 𝓤 _ (fst∗ 𝓤 _ (emp 𝓤)) (walk 𝓛 mem run
-      κs.0 κs.1.0 κs.1.1.0 κs.1.1.1.0 κs.1.1.1.1.0 qs.0 qs.1.0 qs.1.1.0 qs.1.1.1.0
-      qs.1.1.1.1.0
-      a.0.ref_ptr.0 a.0.ref_ptr.1 a.0.ghost_name a.0.now a.1.0 a.1.1.0 a.1.1.1.0 a.1.1.1.1.0
-      a.1.1.1.1.1.0.ref_ptr.0 a.1.1.1.1.1.0.ref_ptr.1 a.1.1.1.1.1.0.ghost_name a.1.1.1.1.1.0.now
-      a.1.1.1.1.1.1.0.ref_ptr.0 a.1.1.1.1.1.1.0.ref_ptr.1 a.1.1.1.1.1.1.0.ghost_name a.1.1.1.1.1.1.0.now
-      C Λ fm known known₁ known₂ are.1.0.0.1 are.1.1.1.0.0.1 are.1.1.1.1.0.0.1 are.1.1.1.1.1.0.0.1
-      are.1.1.1.1.1.1.0.0.1 ((struct.lawful grid.the_type grid-laws.the_laws 𝓛).typed a.1.1.0 _ are.1.1.0).0))
-
-forward_meets : {M : Type 1} {𝓤 : Ura M} (𝓛 : Logic 𝓤) → (mem : Memory → SProp 𝓤) (run : Routine → Fun 𝓤)
-    (𝓣 : Tables 𝓤 𝓛.H) → Triple 𝓤 (𝓣.C #work) (WorkC 𝓛 mem run) → Triple 𝓤 (𝓣.C #lies) (LiesC 𝓛 mem run)
-    → Triple 𝓤 (𝓣.C #pick) (PickC 𝓛 mem run)
-    → Meets 𝓛 forward.signature (WpFn 𝓤 𝓛.H 𝓣.C 𝓣.Λ code.function) (forward.spec 𝓛 mem run)
-forward_meets {𝓤 = 𝓤} 𝓛 mem run 𝓣 known known₁ known₂ =
-    walk_Meets 𝓛 forward.ended stayed (
+pub forward_spec : {M : Type 1} → stated.statement M
+forward_spec 𝓤 𝓛 𝓜 𝓡 wired =
+    let 𝓣 = tables 𝓤 𝓛.H 𝓜 𝓡 𝓡.env in
+    proved 𝓛 forward.ended stayed (forward.clauses 𝓛 𝓜.mem 𝓡.returns) 𝓜 𝓡 (
       Goes-gave_ref 𝓛 5 0 tt (plain (λ _. u32)),
       (
         Goes-none_slice 𝓛 5 (1 ∷ []) tt (plain (λ _. usize)) yes,
@@ -619,19 +565,42 @@ forward_meets {𝓤 = 𝓤} 𝓛 mem run 𝓣 known known₁ known₂ =
           ),
         ),
       ),
-    ) (forward.clauses 𝓛 mem run)
-    (WpFn 𝓤 𝓛.H 𝓣.C 𝓣.Λ code.function) (WpFn-mono 𝓤 𝓛.H 𝓛.laws 𝓣 code.function)
-    (forward_walks 𝓛 mem run 𝓣.C 𝓣.Λ (fm_of 𝓤 𝓛.H 𝓛.laws 𝓣) known known₁ known₂)
-
-pub forward_spec : {M : Type 1} → stated.statement M
-unfolding code.routine tables_of
-forward_spec 𝓤 𝓛 𝓜 𝓡 =
-    entered 𝓤 𝓛.H (triple_of 𝓛 forward.signature (forward.spec 𝓛 𝓜.mem 𝓡.run))
-    (tables 𝓤 𝓛.H 𝓜 𝓡 code.env).C (tables 𝓤 𝓛.H 𝓜 𝓡 code.env).Λ #forward code.function (code.unfolded 𝓤 𝓛.H 𝓜 𝓡)
-    (forward_meets 𝓛 𝓜.mem 𝓡.run (tables_of 𝓤 𝓛.H 𝓜 (tables 𝓤 𝓛.H 𝓜 𝓡 code.env))
-    (cited 𝓤 𝓛.H (WorkC 𝓛 𝓜.mem 𝓡.run) 𝓜 𝓡 code.env #work work-def.routine code.calls-forward::work
-    (work-thm.met 𝓤 𝓛 𝓜 𝓡))
-    (cited 𝓤 𝓛.H (LiesC 𝓛 𝓜.mem 𝓡.run) 𝓜 𝓡 code.env #lies lies-def.routine code.calls-forward::lies-in-first
-    (lies-thm.met 𝓤 𝓛 𝓜 𝓡))
-    (cited 𝓤 𝓛.H (PickC 𝓛 𝓜.mem 𝓡.run) 𝓜 𝓡 code.env #pick pick-def.routine code.calls-either-front::pick
-    (pick-thm.met 𝓤 𝓛 𝓜 𝓡)))
+    )
+    #forward code.function (code.unfolded 𝓤 𝓛.H 𝓜 𝓡 wired)
+    (λ κs. (
+      mut_vals,
+      (
+        shr_slice_vals,
+        (
+          struct.vals grid.the_type grid-laws.the_laws,
+          (shr_slice_vals, (shr_slice_vals, (mut_slice_vals, (mut_slice_vals, tt)))),
+        ),
+      ),
+    ))
+    (λ κs. (
+      mut_Tells (named 0) κs.0 u32,
+      (
+        shr_slice_Tells (named 1) κs.1.0 usize,
+        (
+          struct.tells grid.the_type grid-laws.the_laws,
+          (
+            shr_slice_Tells (named 2) κs.1.1.0 f32,
+            (
+              shr_slice_Tells (named 3) κs.1.1.1.0 f32,
+              (mut_slice_Tells (named 4) κs.1.1.1.1.0 f32, (mut_slice_Tells (named 4) κs.1.1.1.1.0 f32, tt)),
+            ),
+          ),
+        ),
+      ),
+    ))
+    (λ κs qs bounds a g are. via 𝓤 _ (fst∗ 𝓤 _ (emp 𝓤)) (walk 𝓛 𝓜.mem 𝓡.returns
+    κs.0 κs.1.0 κs.1.1.0 κs.1.1.1.0 κs.1.1.1.1.0 qs.0 qs.1.0 qs.1.1.0 qs.1.1.1.0 qs.1.1.1.1.0
+    a.0.ref_ptr.0 a.0.ref_ptr.1 a.0.ghost_name a.0.now a.1.0 a.1.1.0 a.1.1.1.0 a.1.1.1.1.0
+    a.1.1.1.1.1.0.ref_ptr.0 a.1.1.1.1.1.0.ref_ptr.1 a.1.1.1.1.1.0.ghost_name a.1.1.1.1.1.0.now
+    a.1.1.1.1.1.1.0.ref_ptr.0 a.1.1.1.1.1.1.0.ref_ptr.1 a.1.1.1.1.1.1.0.ghost_name a.1.1.1.1.1.1.0.now
+    𝓣.C 𝓣.Λ (framed 𝓤 𝓛.H 𝓜 𝓣)
+    (work-thm.met 𝓤 𝓛 𝓜 𝓡 (code.calls-forward::work 𝓡.env wired))
+    (lies-thm.met 𝓤 𝓛 𝓜 𝓡 (code.calls-forward::lies_in_first 𝓡.env wired))
+    (pick-thm.met 𝓤 𝓛 𝓜 𝓡 (code.calls-either_front::pick 𝓡.env wired))
+    are.1.0.0.1 are.1.1.1.0.0.1 are.1.1.1.1.0.0.1 are.1.1.1.1.1.0.0.1 are.1.1.1.1.1.1.0.0.1
+    ((struct.lawful grid.the_type grid-laws.the_laws 𝓛).typed a.1.1.0 _ are.1.1.0).0))

@@ -5,14 +5,14 @@ use borrow.Author.Rules.{rules}
 use Rattle.forward.proofs.lies_in_first.Statement.{statement}
 use Rattle.forward.proofs.lies_in_first.Tie as tie
 
-returns : tie.Need-returns
+returns : tie.Need-returns-then-widths-eq0
 unfolding in_first
-returns c = sym (rw c.if1.true)
+returns c = sym (rw c.if-widths-eq0.true)
 
-sub_result : tie.Need-overflow-sub-result
+sub_result : tie.Need-overflow_sub-result
 sub_result c = search rules
 
-returns_2 : tie.Need-returns-2
+returns_2 : tie.Need-returns
 unfolding in_first
 returns_2 c = refl
 

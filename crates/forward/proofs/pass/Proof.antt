@@ -9,49 +9,49 @@ use Rattle.forward.proofs.pass.Statement.{statement}
 use Rattle.forward.proofs.pass.Tie as tie
 
 -- ---- from place to place: only these lines know how many places lie between
-abbrev begun : tie.After-slice-known2 → tie.Start
+abbrev begun : tie.After-slice_known-2-1 → tie.Start
 begun c = c.before.before.before.before.before
 
-abbrev tested : tie.Then1 → tie.After-all-finite
+abbrev tested : tie.Then-all_finite → tie.After-all_finite
 tested c = c.before
 
-abbrev ready : tie.After-run-row-arg2 → tie.After-first
+abbrev ready : tie.After-run_row-arg-then-all_finite-1 → tie.After-first-start
 ready c = c.before.before.before
 
-abbrev entry : tie.After-scaled-powers → tie.Start
+abbrev entry : tie.After-scaled_powers-table → tie.Start
 entry c = begun (tested c.before).before
 
 -- the model has been found finite
-finite : (c : tie.After-scaled-powers) → all_finite (entry c).args.model.now ≡ true
-finite c = sym (tested c.before).all-finite.ensures ∙ c.before.if1.true
+finite : (c : tie.After-scaled_powers-table) → all_finite (entry c).args.model.now ≡ true
+finite c = sym (tested c.before).all_finite.ensures ∙ c.if-all_finite.true
 
-all_finite_requires : tie.Need-all-finite-requires
+all_finite_requires : tie.Need-all_finite-requires
 all_finite_requires c κs = search rules
 
-scaled_powers_requires : tie.Need-scaled-powers-requires
+scaled_powers_requires : tie.Need-scaled_powers-table-requires
 scaled_powers_requires c κs = search rules
 
-first_requires : tie.Need-first-requires
+first_requires : tie.Need-first-start-requires
 first_requires c κs = (entry c).requires.walkable.grid
 
-run_row_requires : tie.Need-run-row-requires
+run_row_requires : tie.Need-run_row-requires
 run_row_requires c κs =
     let r = ready c in
-    ((entry r.before).requires, r.before.scaled-powers.ensures, finite_model _ (finite r.before), r.first.ensures)
+    ((entry r.before).requires, r.scaled_powers-table.ensures, finite_model _ (finite r.before), r.first-start.ensures)
 
-same_length : tie.Need-same-length
+same_length : tie.Need-shape_of-first-then-all_finite
 same_length c = search rules
 
-same_length_2 : tie.Need-same-length-2
+same_length_2 : tie.Need-shape_of-second-then-all_finite
 same_length_2 c = search rules
 
-returns : tie.Need-returns
+returns : tie.Need-returns-then-all_finite
 returns c =
     let run = c.before.before.before.before in
     ran_passed _ _ _ _ _ _ _ _ _ (finite (ready run.before).before) run.run_row.ensures
 
-returns_2 : tie.Need-returns-2
-returns_2 c = wild_passed _ _ _ _ _ _ (sym c.before.all-finite.ensures ∙ c.if1.false)
+returns_2 : tie.Need-returns
+returns_2 c = wild_passed _ _ _ _ _ _ (sym c.all_finite.ensures ∙ c.if-all_finite.false)
 
 pub pass_spec : {M : Type 1} → statement M
 pass_spec =

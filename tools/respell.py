@@ -47,8 +47,10 @@ def declared():
     for path in files(".antt"):
         in_record = False
         for line in open(path, encoding="utf-8"):
-            if line.strip() and not line[0].isspace():
-                in_record = bool(re.match(r"(pub\s+)?(record|data)\b", line))
+            if re.match(r"\s*(pub\s+)?(record|data)\b", line):
+                in_record = True
+            elif line.strip() and not line[0].isspace():
+                in_record = False
             found = DECLARED.match(line)
             if not found:
                 continue

@@ -1,3 +1,3 @@
 pub mod Steps
-pub mod Training
+pub mod Whole
 pub mod Determined

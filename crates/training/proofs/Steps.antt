@@ -105,10 +105,10 @@ module _ (N : Net) (ws : List ℕ) (ps₀ xs ts : List Float) (rate : Float) (gs
     sound = first_more _ k h.sound (sym (fault_here k r ps gs W ps' gs' W' h d) ∙ z);
     model = rw (add-one k, ← h.model) (rw z at d.model);
     finite = step_finite N ws ps xs ts rate gs W ps' gs' W' r d z;
-    size_p = p ∙ h.sizeP;
+    size_p = p ∙ h.size_p;
     size_g = q ∙ h.size_g;
     size_w = s ∙ h.size_w;
-    rests = rests_more ws ps₀ ps gs₀ W₀ gs W gs' W' h.sizeP h.rests d.rests;
+    rests = rests_more ws ps₀ ps gs₀ W₀ gs W gs' W' h.size_p h.rests d.rests;
   }
 
   -- step k is refused: the model is as the k steps before it left it
@@ -123,7 +123,7 @@ module _ (N : Net) (ws : List ℕ) (ps₀ xs ts : List Float) (rate : Float) (gs
       record {
         answer = rw (first, done, ← e) (stopped r k z);
         model = rw (done, ← h.model) (d.model ∙ unmoved r z);
-        rests = rests_more ws ps₀ ps gs₀ W₀ gs W gs' W' h.sizeP h.rests d.rests;
+        rests = rests_more ws ps₀ ps gs₀ W₀ gs W gs' W' h.size_p h.rests d.rests;
       }
     where
       unmoved : (r : ℕ) → (r ≡ 0 → ⊥) → past r (stepped N ps ws xs ts rate) ps ≡ ps

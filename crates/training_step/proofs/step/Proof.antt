@@ -8,65 +8,58 @@ use Rattle.training_step.proofs.step.Tie as tie
 gather_requires : tie.Need-gather-requires
 gather_requires c κs = search rules
 
-same_length : tie.Need-same-length
+same_length : tie.Need-shape_of-model-then-not-gather
 same_length c = search rules
 
-same_length_2 : tie.Need-same-length-2
+same_length_2 : tie.Need-shape_of-gradients-then-not-gather
 same_length_2 c = search rules
 
-same_length_3 : tie.Need-same-length-3
+same_length_3 : tie.Need-shape_of-work-then-not-gather
 same_length_3 c = search rules
 
-returns : tie.Need-returns
+returns : tie.Need-returns-then-not-gather
 returns c =
-    let at-gather = c.before.before.before.before.before in
-    step_stopped _ _ _ _ _ _ _ _ _ _ _ at-gather.gather.ensures (not-true _ c.if1.true)
+    step_stopped _ _ _ _ _ _ _ _ _ _ _ c.gather.ensures (not-true _ c.if-not-gather.true-raw)
 
-sub_move_or_leave : tie.Need-overflow-sub-move-or-leave
+sub_move_or_leave : tie.Need-slice_bounds-move_or_leave-count
 sub_move_or_leave c = search rules
 
-part_move_or_leave_start : tie.Need-slice-bounds-move-or-leave-start
+part_move_or_leave_start : tie.Need-slice_bounds-move_or_leave-start
 part_move_or_leave_start c = search rules
 
-part_move_or_leave_end : tie.Need-slice-bounds-move-or-leave-end
+part_move_or_leave_end : tie.Need-slice_bounds-move_or_leave-end
 part_move_or_leave_end c = search rules
 
-move_or_leave_requires : tie.Need-move-or-leave-requires
+move_or_leave_requires : tie.Need-move_or_leave-requires
 move_or_leave_requires c κs = search rules
 
-same_length_4 : tie.Need-same-length-4
+same_length_4 : tie.Need-shape_of-model-then-move_or_leave
 same_length_4 c = search rules
 
-same_length_5 : tie.Need-same-length-5
+same_length_5 : tie.Need-shape_of-gradients-then-move_or_leave
 same_length_5 c = search rules
 
-same_length_6 : tie.Need-same-length-6
+same_length_6 : tie.Need-shape_of-work-then-move_or_leave
 same_length_6 c = search rules
 
-returns_2 : tie.Need-returns-2
+returns_2 : tie.Need-returns-then-move_or_leave
 returns_2 c =
-    let at-move = c.before.before.before in
-    let at-if1 = at-move.before.before.before.before in
-    let at-gather = at-if1.before.before.before.before.before in
-    step_done _ _ _ _ _ _ _ _ _ _ _ _ _ at-gather.gather.ensures (not-false _ at-if1.if1.false) at-move.move-or-leave.ensures
-    c.if2.true
+    step_done _ _ _ _ _ _ _ _ _ _ _ _ _ c.gather.ensures (not-false _ c.if-not-gather.false-raw) c.move_or_leave.ensures
+    c.if-move_or_leave.true
 
-same_length_7 : tie.Need-same-length-7
+same_length_7 : tie.Need-shape_of-model
 same_length_7 c = search rules
 
-same_length_8 : tie.Need-same-length-8
+same_length_8 : tie.Need-shape_of-gradients
 same_length_8 c = search rules
 
-same_length_9 : tie.Need-same-length-9
+same_length_9 : tie.Need-shape_of-work
 same_length_9 c = search rules
 
-returns_3 : tie.Need-returns-3
+returns_3 : tie.Need-returns
 returns_3 c =
-    let at-move = c.before.before.before in
-    let at-if1 = at-move.before.before.before.before in
-    let at-gather = at-if1.before.before.before.before.before in
-    step_undone _ _ _ _ _ _ _ _ _ _ _ _ _ at-gather.gather.ensures (not-false _ at-if1.if1.false) at-move.move-or-leave.ensures
-    c.if2.false
+    step_undone _ _ _ _ _ _ _ _ _ _ _ _ _ c.gather.ensures (not-false _ c.if-not-gather.false-raw) c.move_or_leave.ensures
+    c.if-move_or_leave.false
 
 pub step_spec : {M : Type 1} → statement M
 step_spec =

@@ -4,14 +4,14 @@ use borrow.Author.Rules.{rules}
 use Rattle.update.proofs.rate_sound.Statement.{statement}
 use Rattle.update.proofs.rate_sound.Tie as tie
 
-is_finite_requires : tie.Need-is-finite-requires
+is_finite_requires : tie.Need-is_finite-requires
 is_finite_requires c κs = search rules
 
-returns : tie.Need-returns
+returns : tie.Need-returns-then-is_finite
 unfolding rate_sound
-returns c = rw (← c.before.is_finite.ensures, c.if1.true)
+returns c = rw (← c.is_finite.ensures, c.if-is_finite.true)
 
-returns_2 : tie.Need-returns-2
+returns_2 : tie.Need-returns
 unfolding rate_sound
 returns_2 c = search rules
 

@@ -8,40 +8,40 @@ use Rattle.split_cases.proofs.accumulating.agrees.Tie as tie
 new_requires : tie.Need-new-requires
 new_requires c κs = search rules
 
-setup_here_requires : tie.Need-setup-here-requires
+setup_here_requires : tie.Need-setup_here-setup-requires
 setup_here_requires c κs = search rules
 
-floats_here_requires : tie.Need-floats-here-requires
+floats_here_requires : tie.Need-floats_here-model-requires
 floats_here_requires c κs = search rules
 
-floats_here_requires_2 : tie.Need-floats-here-requires-2
+floats_here_requires_2 : tie.Need-floats_here-inputs-requires
 floats_here_requires_2 c κs = search rules
 
-floats_here_requires_3 : tie.Need-floats-here-requires-3
+floats_here_requires_3 : tie.Need-floats_here-targets-requires
 floats_here_requires_3 c κs = search rules
 
-array_share_prefix_widths : tie.Need-array-share-prefix-widths
+array_share_prefix_widths : tie.Need-slice_bounds-widths-end
 array_share_prefix_widths c = search rules
 
-slice_aggregate_lent : tie.Need-slice-aggregate-lent
+slice_aggregate_lent : tie.Need-slice_bounds-lent-end
 slice_aggregate_lent c = sym (length-take-le _ _ (array_share_prefix_widths c.before))
 
-array_share_prefix_parameters : tie.Need-array-share-prefix-parameters
+array_share_prefix_parameters : tie.Need-slice_bounds-parameters-end
 array_share_prefix_parameters c = search rules
 
-slice_aggregate_lent_2 : tie.Need-slice-aggregate-lent-2
+slice_aggregate_lent_2 : tie.Need-slice_bounds-lent-end-2
 slice_aggregate_lent_2 c = sym (length-take-le _ _ (array_share_prefix_parameters c.before))
 
-array_share_prefix_rows : tie.Need-array-share-prefix-rows
+array_share_prefix_rows : tie.Need-slice_bounds-rows-end
 array_share_prefix_rows c = search rules
 
-slice_aggregate_lent_3 : tie.Need-slice-aggregate-lent-3
+slice_aggregate_lent_3 : tie.Need-slice_bounds-lent-end-3
 slice_aggregate_lent_3 c = sym (length-take-le _ _ (array_share_prefix_rows c.before))
 
-array_share_prefix_wanted : tie.Need-array-share-prefix-wanted
+array_share_prefix_wanted : tie.Need-slice_bounds-wanted-end
 array_share_prefix_wanted c = search rules
 
-slice_aggregate_lent_4 : tie.Need-slice-aggregate-lent-4
+slice_aggregate_lent_4 : tie.Need-slice_bounds-lent-end-4
 slice_aggregate_lent_4 c = sym (length-take-le _ _ (array_share_prefix_wanted c.before))
 
 lent_requires : tie.Need-lent-requires

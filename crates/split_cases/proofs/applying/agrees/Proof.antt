@@ -8,34 +8,34 @@ use Rattle.split_cases.proofs.applying.agrees.Tie as tie
 new_requires : tie.Need-new-requires
 new_requires c κs = search rules
 
-setup_here_requires : tie.Need-setup-here-requires
+setup_here_requires : tie.Need-setup_here-setup-requires
 setup_here_requires c κs = search rules
 
-floats_here_requires : tie.Need-floats-here-requires
+floats_here_requires : tie.Need-floats_here-model-requires
 floats_here_requires c κs = search rules
 
-floats_here_requires_2 : tie.Need-floats-here-requires-2
+floats_here_requires_2 : tie.Need-floats_here-gradients-requires
 floats_here_requires_2 c κs = search rules
 
-array_share_prefix_widths : tie.Need-array-share-prefix-widths
+array_share_prefix_widths : tie.Need-slice_bounds-widths-end
 array_share_prefix_widths c = search rules
 
-slice_aggregate_meets : tie.Need-slice-aggregate-meets
+slice_aggregate_meets : tie.Need-slice_bounds-meets-end
 slice_aggregate_meets c = sym (length-take-le _ _ (array_share_prefix_widths c.before))
 
-sub_meets : tie.Need-overflow-sub-meets
+sub_meets : tie.Need-slice_bounds-meets-count
 sub_meets c = search rules
 
-part_parameters_start : tie.Need-slice-bounds-parameters-start
+part_parameters_start : tie.Need-slice_bounds-parameters-start
 part_parameters_start c = search rules
 
-part_parameters_end : tie.Need-slice-bounds-parameters-end
+part_parameters_end : tie.Need-slice_bounds-parameters-end
 part_parameters_end c = search rules
 
-array_share_prefix_moves : tie.Need-array-share-prefix-moves
+array_share_prefix_moves : tie.Need-slice_bounds-moves-end
 array_share_prefix_moves c = search rules
 
-slice_aggregate_meets_2 : tie.Need-slice-aggregate-meets-2
+slice_aggregate_meets_2 : tie.Need-slice_bounds-meets-end-2
 slice_aggregate_meets_2 c = sym (length-take-le _ _ (array_share_prefix_moves c.before))
 
 meets_requires : tie.Need-meets-requires

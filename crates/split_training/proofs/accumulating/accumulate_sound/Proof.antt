@@ -13,89 +13,87 @@ use Rattle.split_training.proofs.accumulating.accumulate_sound.Statement.{statem
 use Rattle.split_training.proofs.accumulating.accumulate_sound.Tie as tie
 
 -- ---- from place to place: only these lines know how many places lie between
-abbrev lent : tie.After-slice-known2 → tie.After-shared-slice-known3
+abbrev lent : tie.After-slice_known-2-1 → tie.After-shared_slice_known-3-1
 lent c = c.before.before.before
 
-abbrev entry : tie.Else1 → tie.Start
+abbrev entry : tie.Else-gradients-model → tie.Start
 entry c = (lent c.before).before.before.before
 
-abbrev tested : tie.Else2 → tie.Else1
+abbrev tested : tie.Else-not-all_finite → tie.Else-gradients-model
 tested c = c.before.before
 
-abbrev asked : tie.After-batch-and-total-fault → tie.Else2
+abbrev asked : tie.After-batch_and_total_fault-fault → tie.Else-not-all_finite
 asked c = c.before
 
-abbrev begun : tie.After-add-tested-arg2 → tie.Else3
+abbrev begun : tie.After-add_tested-arg-2-1 → tie.Else-fault-ne0
 begun c = c.before.before
 
-abbrev ran : tie.After-slice-known4 → tie.After-add-tested
+abbrev ran : tie.After-slice_known-4-1 → tie.After-add_tested
 ran c = c.before.before.before.before
 
 -- ---- what is known past 11
-finite : (c : tie.Else2) → all_finite (entry (tested c)).args.model.now ≡ true
-finite c = sym c.before.all-finite.ensures ∙ not-false _ c.if2.false
+finite : (c : tie.Else-not-all_finite) → all_finite (entry (tested c)).args.model.now ≡ true
+finite c = sym c.all_finite.ensures ∙ not-false _ c.if-not-all_finite.false-raw
 
 -- ---- the needs
-returns : tie.Need-returns
-returns c = wrong_length c.if1.true
+returns : tie.Need-returns-then-gradients-model
+returns c = wrong_length c.if-gradients-model.true
 
-all_finite_requires : tie.Need-all-finite-requires
+all_finite_requires : tie.Need-all_finite-requires
 all_finite_requires c κs = search rules
 
-returns_2 : tie.Need-returns-2
+returns_2 : tie.Need-returns-then-not-all_finite
 returns_2 c =
-    let f = c.before in
-    wild_model f.before.if1.false (sym f.all-finite.ensures ∙ not-true _ c.if2.true)
+    wild_model c.if-gradients-model.false (sym c.all_finite.ensures ∙ not-true _ c.if-not-all_finite.true-raw)
 
-batch_and_total_fault_requires : tie.Need-batch-and-total-fault-requires
+batch_and_total_fault_requires : tie.Need-batch_and_total_fault-fault-requires
 batch_and_total_fault_requires c κs =
     let w = (entry (tested c)).requires.walkable in
     (w.some, first_some w, last_some w)
 
-returns_3 : tie.Need-returns-3
+returns_3 : tie.Need-returns-then-fault-ne0
 returns_3 c =
     let k = asked c.before in
-    faulty (tested k).if1.left (finite k) _ c.before.batch-and-total-fault.ensures c.if3.true
+    faulty (tested k).if-gradients-model.false (finite k) _ c.batch_and_total_fault-fault.ensures c.if-fault-ne0.true
 
-add_tested_requires : tie.Need-add-tested-requires
+add_tested_requires : tie.Need-add_tested-requires
 add_tested_requires c κs =
     let e = begun c in
     let k = asked e.before in
-    let s = entry (tested k) in
-    let w = s.pre.walkable in
+    let w = k.requires.walkable in
     let b = sound_batch _ _ _ _ _ (first_some w) (last_some w)
-    (sym e.before.batch-and-total-fault.ensures ∙ e.if3.left) in (
-      record { fits = s.pre; gradients = (tested k).if1.left; finite = finite_model _ (finite k); batch = b.0 },
+    (sym e.batch_and_total_fault-fault.ensures ∙ e.if-fault-ne0.false) in (
+      record { fits = k.requires; gradients = (tested k).if-gradients-model.false; finite = finite_model _ (finite k); batch = b.0 },
       b.1,
     )
 
-same_length : tie.Need-same-length
+same_length : tie.Need-shape_of-gradients-then-add_tested
 same_length c = search rules
 
-same_length_2 : tie.Need-same-length-2
+same_length_2 : tie.Need-shape_of-work-then-add_tested
 same_length_2 c = search rules
 
-returns_4 : tie.Need-returns-4
+returns_4 : tie.Need-returns-then-add_tested
 returns_4 c =
     let r = ran c.before in
     let e = begun r.before in
     let k = asked e.before in
-    added (tested k).if1.left (finite k) _ e.before.batch-and-total-fault.ensures e.if3.left
-    r.add-tested.ensures c.if4.true
+    added (tested k).if-gradients-model.false (finite k) _ e.batch_and_total_fault-fault.ensures e.if-fault-ne0.false
+    r.add_tested.ensures c.if-add_tested.true
 
-same_length_3 : tie.Need-same-length-3
+same_length_3 : tie.Need-shape_of-gradients
 same_length_3 c = search rules
 
-same_length_4 : tie.Need-same-length-4
+same_length_4 : tie.Need-shape_of-work
 same_length_4 c = search rules
 
-returns_5 : tie.Need-returns-5
+returns_5 : tie.Need-returns
 returns_5 c =
     let r = ran c.before in
     let e = begun r.before in
     let k = asked e.before in
-    unadded (tested k).if1.left (finite k) _ e.before.batch-and-total-fault.ensures e.if3.left
-    r.add-tested.ensures c.if4.false
+    unadded (tested k).if-gradients-model.false (finite k) _ e.batch_and_total_fault-fault.ensures e.if-fault-ne0.false
+    r.add_tested.ensures c.if-add_tested.false
 
 pub accumulate_sound_spec : {M : Type 1} → statement M
 accumulate_sound_spec =

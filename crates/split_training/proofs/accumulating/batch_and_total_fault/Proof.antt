@@ -4,31 +4,30 @@ use borrow.Author.Rules.{rules}
 use Rattle.split_training.proofs.accumulating.batch_and_total_fault.Statement.{statement}
 use Rattle.split_training.proofs.accumulating.batch_and_total_fault.Tie as tie
 
-sub_last : tie.Need-overflow-sub-last
+sub_last : tie.Need-overflow_sub-last
 sub_last c = search rules
 
-shared_slice_read_batch_fault : tie.Need-shared-slice-read-batch-fault
+shared_slice_read_batch_fault : tie.Need-bounds-widths-0
 shared_slice_read_batch_fault c = search rules
 
-mul_batch_fault : tie.Need-overflow-mul-batch-fault
+mul_batch_fault : tie.Need-offset_bounds-widths-last
 mul_batch_fault c = search rules
 
-shared_slice_read_batch_fault_2 : tie.Need-shared-slice-read-batch-fault-2
+shared_slice_read_batch_fault_2 : tie.Need-bounds-widths-last
 shared_slice_read_batch_fault_2 c = search rules
 
-batch_fault_requires : tie.Need-batch-fault-requires
+batch_fault_requires : tie.Need-batch_fault-batch-requires
 batch_fault_requires c κs = search rules
 
-total_fault_requires : tie.Need-total-fault-requires
+total_fault_requires : tie.Need-total_fault-stated-requires
 total_fault_requires c κs = search rules
 
-returns : tie.Need-returns
-returns c = rw (← c.before.before.batch-fault.ensures) (then_first _ _ c.if1.true)
+returns : tie.Need-returns-then-batch-ne0
+returns c = rw (← c.batch_fault-batch.ensures) (then_first _ _ c.if-batch-ne0.true)
 
-returns_2 : tie.Need-returns-2
+returns_2 : tie.Need-returns
 returns_2 c =
-    let stated = c.before in
-    rw (← stated.before.batch-fault.ensures, c.if1.false) stated.total-fault.ensures
+    rw (← c.batch_fault-batch.ensures, c.if-batch-ne0.false) c.total_fault-stated.ensures
 
 pub batch_and_total_fault_spec : {M : Type 1} → statement M
 batch_and_total_fault_spec =

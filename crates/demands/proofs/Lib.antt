@@ -13,7 +13,7 @@ pub mod Steps
 pub mod Training
 pub mod Demand
 pub mod Start
-pub mod Hidden
+pub mod HiddenStart
 pub mod Marked
 pub mod Visiting
 pub mod Unmarked

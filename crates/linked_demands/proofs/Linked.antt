@@ -15,7 +15,7 @@ use Rattle.demands.specs.Alike.{SamePredict, SameLoss, SameStep, SameTraining}
 use Rattle.demands.specs.Start.{from_minus_zero}
 use Rattle.demands.proofs.Demand.{demand_3}
 use Rattle.demands.specs.Unmarked.{unmarked}
-use Rattle.demands.proofs.Hidden.{start_hidden}
+use Rattle.demands.proofs.HiddenStart.{start_hidden}
 use Rattle.demands.proofs.Unmarked.{map_shows}
 use Rattle.estimator.specs.Linkage.{Linked, mean_or}
 use Rattle.training.specs.Train.{steps_done}

@@ -3,20 +3,20 @@ use borrow.Author.Rules.{rules}
 use Rattle.estimator.proofs.telling.tell_description.Statement.{statement}
 use Rattle.estimator.proofs.telling.tell_description.Tie as tie
 
-enum_known_described : tie.Need-enum-known-described
+enum_known_described : tie.Need-enum_known-described
 enum_known_described c = search rules
 
-enum_known_described_2 : tie.Need-enum-known-described-2
+enum_known_described_2 : tie.Need-enum_known-described-in-Refused-1
 enum_known_described_2 c = search rules
 
-returns : tie.Need-returns
+returns : tie.Need-returns-in-Sound
 returns c =
-    let e = c.before.described.given.1 in
+    let e = c.in-Sound.is in
     (record { number = rw e; carried = rw e }, rw e)
 
-returns_2 : tie.Need-returns-2
+returns_2 : tie.Need-returns-in-Refused
 returns_2 c =
-    let e = c.before.described2.given.1 in
+    let e = c.in-Refused.is in
     (record { number = rw e; carried = rw e }, rw e)
 
 pub tell_description_spec : {M : Type 1} → statement M

@@ -19,13 +19,11 @@ returns c = stays8 _ _ _ _ (sym c.check-checked.ensures ∙ c.in-Refused.is)
 
 returns_2 : tie.Need-returns-then-model-sizes
 returns_2 c =
-    let sound = c in
-    fits8 _ _ _ _ (sym sound.check-checked.ensures ∙ sound.in-Sound.is) c.if-model-sizes.true
+    fits8 _ _ _ _ (sym c.check-checked.ensures ∙ c.in-Sound.is) c.if-model-sizes.true
 
 returns_3 : tie.Need-returns-else-model-sizes
 returns_3 c =
-    let sound = c in
-    fails8 _ _ _ _ (sym sound.check-checked.ensures ∙ sound.in-Sound.is) c.if-model-sizes.false
+    fails8 _ _ _ _ (sym c.check-checked.ensures ∙ c.in-Sound.is) c.if-model-sizes.false
 
 pub check_model_spec : {M : Type 1} → statement M
 check_model_spec =

@@ -20,13 +20,11 @@ returns c =
 
 returns_2 : tie.Need-returns-then-sizes-work
 returns_2 c =
-    let sound = c in
-    fits_nodes9 _ _ _ _ _ (sym sound.check_model-checked.ensures ∙ sound.in-Sound.is) c.if-sizes-work.true
+    fits_nodes9 _ _ _ _ _ (sym c.check_model-checked.ensures ∙ c.in-Sound.is) c.if-sizes-work.true
 
 returns_3 : tie.Need-returns-else-sizes-work
 returns_3 c =
-    let sound = c in
-    fails_nodes9 _ _ _ _ _ (sym sound.check_model-checked.ensures ∙ sound.in-Sound.is) c.if-sizes-work.false
+    fails_nodes9 _ _ _ _ _ (sym c.check_model-checked.ensures ∙ c.in-Sound.is) c.if-sizes-work.false
 
 pub check_node_work_spec : {M : Type 1} → statement M
 check_node_work_spec =

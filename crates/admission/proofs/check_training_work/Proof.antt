@@ -20,13 +20,11 @@ returns c =
 
 returns_2 : tie.Need-returns-then-sizes-gradients
 returns_2 c =
-    let sound = c in
-    fits_training9 _ _ _ _ _ _ (sym sound.check_node_work-checked.ensures ∙ sound.in-Sound.is) c.if-sizes-gradients.true
+    fits_training9 _ _ _ _ _ _ (sym c.check_node_work-checked.ensures ∙ c.in-Sound.is) c.if-sizes-gradients.true
 
 returns_3 : tie.Need-returns-else-sizes-gradients
 returns_3 c =
-    let sound = c in
-    fails_training9 _ _ _ _ _ _ (sym sound.check_node_work-checked.ensures ∙ sound.in-Sound.is) c.if-sizes-gradients.false
+    fails_training9 _ _ _ _ _ _ (sym c.check_node_work-checked.ensures ∙ c.in-Sound.is) c.if-sizes-gradients.false
 
 pub check_training_work_spec : {M : Type 1} → statement M
 check_training_work_spec =

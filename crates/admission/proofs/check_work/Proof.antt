@@ -17,8 +17,7 @@ enum_known_checked_2 c = search rules
 returns : tie.Need-returns-then-sizes-second
 returns c =
     let at1 = c.before.before in
-    let sound = at1 in
-    fits9 _ _ _ _ _ _ (sym sound.check_model-checked.ensures ∙ sound.in-Sound.is)
+    fits9 _ _ _ _ _ _ (sym at1.check_model-checked.ensures ∙ at1.in-Sound.is)
     at1.if-sizes-first.true c.if-sizes-second.true
 
 returns_2 : tie.Need-returns-in-Refused
@@ -28,14 +27,12 @@ returns_2 c =
 returns_3 : tie.Need-returns-else-sizes-second
 returns_3 c =
     let at1 = c.before.before in
-    let sound = at1 in
-    fails_second9 _ _ _ _ _ _ (sym sound.check_model-checked.ensures ∙ sound.in-Sound.is)
+    fails_second9 _ _ _ _ _ _ (sym at1.check_model-checked.ensures ∙ at1.in-Sound.is)
     at1.if-sizes-first.true c.if-sizes-second.false
 
 returns_4 : tie.Need-returns-else-sizes-first
 returns_4 c =
-    let sound = c in
-    fails_first9 _ _ _ _ _ _ (sym sound.check_model-checked.ensures ∙ sound.in-Sound.is)
+    fails_first9 _ _ _ _ _ _ (sym c.check_model-checked.ensures ∙ c.in-Sound.is)
     c.if-sizes-first.false
 
 pub check_work_spec : {M : Type 1} → statement M

@@ -38,22 +38,20 @@ uncounted_requires_2 c κs = search rules
 
 returns_3 : tie.Need-returns-in_default-plus
 returns_3 c =
-    let at = c in
     rw (
       c.uncounted-in_default-plus.ensures,
-      at.in-Parameters.is,
-      at.in-Below.is,
-      ← at.plus.ensures,
+      c.in-Parameters.is,
+      c.in-Below.is,
+      ← c.plus.ensures,
       c.in_default-plus.is,
     )
 
 returns_4 : tie.Need-returns
 returns_4 c =
-    let at = c in
     rw (
-      at.in-Parameters.is,
-      at.in-Below.is,
-      ← at.plus.ensures,
+      c.in-Parameters.is,
+      c.in-Below.is,
+      ← c.plus.ensures,
       c.in-Below-plus.is,
     )
 

@@ -49,9 +49,8 @@ verdict_requires c κs = search rules
 
 returns : tie.Need-returns invariant-loop decreases-loop
 returns c =
-    let at = c in
     c.verdict.ensures
-    ∙ verdict_is _ _ _ _ at.loop-i.i at.loop-i.shape at.per_edge-each.ensures refl (omega arith) at.loop-i.invariant.1
+    ∙ verdict_is _ _ _ _ c.loop-i.i c.loop-i.shape c.per_edge-each.ensures refl (omega arith) c.loop-i.invariant.1
 
 pub check_spec : {M : Type 1} → statement M
 check_spec =

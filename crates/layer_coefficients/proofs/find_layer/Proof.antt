@@ -28,9 +28,8 @@ loop_holds c = (omega arith, c.first-found.ensures)
 next_requires : tie.Need-next-found-requires invariant-loop decreases-loop
 next_requires c κs =
     let at-loop = c.before in
-    let at-start = at-loop in
     let stands = at-loop.loop.invariant.1 in
-    (at-start.requires.0, omega (arith, stands.index, at-start.requires.1), here stands)
+    (at-loop.requires.0, omega (arith, stands.index, at-loop.requires.1), here stands)
 
 add_counter : tie.Need-overflow_step invariant-loop decreases-loop
 add_counter c = omega arith
@@ -40,14 +39,12 @@ loop_less c = omega arith
 
 loop_again : tie.Need-loop-preserved invariant-loop decreases-loop
 loop_again c =
-    let at-loop = c in
-    (omega arith, rw at-loop.loop.invariant.1.index at c.next-found.ensures)
+    (omega arith, rw c.loop.invariant.1.index at c.next-found.ensures)
 
 returns : tie.Need-returns invariant-loop decreases-loop
 returns c =
-    let at-loop = c in
-    let last : at-loop.loop.counter ≡ at-loop.args.layer = omega arith in
-    rw last at at-loop.loop.invariant.1
+    let last : c.loop.counter ≡ c.args.layer = omega arith in
+    rw last at c.loop.invariant.1
 
 pub find_layer_spec : {M : Type 1} → statement M
 find_layer_spec =

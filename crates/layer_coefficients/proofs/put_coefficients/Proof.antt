@@ -84,11 +84,10 @@ put_floats_requires : tie.Need-put_floats-requires invariant-loop decreases-loop
 put_floats_requires c κs =
     let at_arg = c.before in
     let at-loop = at_arg.before.before in
-    let at-start = at-loop in
     let w = turned at_arg in (
-      word_room _ _ _ _ _ _ at-loop.loop-edge.bytes at-start.args.model.now w at-loop.loop-edge.invariant.1
+      word_room _ _ _ _ _ _ at-loop.loop-edge.bytes at-loop.args.model.now w at-loop.loop-edge.invariant.1
           (omega (arith, w.model)),
-      edge_finite _ _ _ _ _ w at-start.requires.1,
+      edge_finite _ _ _ _ _ w at-loop.requires.1,
     )
 
 add_edge : tie.Need-overflow_step-edge invariant-loop decreases-loop
@@ -113,9 +112,8 @@ same_length c = c.loop-edge.invariant.1
 
 returns : tie.Need-returns invariant-loop decreases-loop
 returns c =
-    let at-loop = c in
-    let last : at-loop.loop-edge.edge ≡ at-loop.args.edges = omega arith in
-    at-loop.loop-edge.invariant.2 ∙ rw last
+    let last : c.loop-edge.edge ≡ c.args.edges = omega arith in
+    c.loop-edge.invariant.2 ∙ rw last
 
 pub put_coefficients_spec : {M : Type 1} → statement M
 put_coefficients_spec =

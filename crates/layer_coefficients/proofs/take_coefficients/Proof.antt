@@ -81,11 +81,10 @@ part_take_floats_end_2 c = omega (arith, (turned c).model)
 take_floats_requires : tie.Need-take_floats-requires invariant-loop decreases-loop
 take_floats_requires c κs =
     let at_arg = c.before in
-    let at-loop = at_arg in
-    let a = at-loop.args in
+    let a = at_arg.args in
     let w = turned at_arg in
-    word_room _ _ _ _ _ _ a.bytes.now at-loop.loop-edge.model w refl
-    (omega (arith, w.model, at-loop.loop-edge.invariant.1))
+    word_room _ _ _ _ _ _ a.bytes.now at_arg.loop-edge.model w refl
+    (omega (arith, w.model, at_arg.loop-edge.invariant.1))
 
 add_edge : tie.Need-overflow_step-edge invariant-loop decreases-loop
 add_edge c = omega arith
@@ -109,9 +108,8 @@ same_length c = c.loop-edge.invariant.1
 
 returns : tie.Need-returns invariant-loop decreases-loop
 returns c =
-    let at-loop = c in
-    let last : at-loop.loop-edge.edge ≡ at-loop.args.edges = omega arith in
-    at-loop.loop-edge.invariant.2 ∙ rw last
+    let last : c.loop-edge.edge ≡ c.args.edges = omega arith in
+    c.loop-edge.invariant.2 ∙ rw last
 
 pub take_coefficients_spec : {M : Type 1} → statement M
 take_coefficients_spec =

@@ -25,9 +25,8 @@ returns c =
     let at-knot2 = c.before in
     let at-knot = at-knot2.before in
     let at-if1 = at-knot.before in
-    let at_width = at-if1 in
     rw (
-      ← at_width.width.ensures,
+      ← at-if1.width.ensures,
       at-if1.if-width.true,
       ← at-knot.knot.ensures,
       ← at-knot2.knot-then-width.ensures,

@@ -37,9 +37,8 @@ same_length c = c.loop-place.invariant.2
 
 returns : tie.Need-returns invariant-loop decreases-loop
 returns c =
-    let at-loop = c in
-    let last : at-loop.loop-place.place ≡ at-loop.args.to = omega arith in
-    rw last at at-loop.loop-place.invariant.3
+    let last : c.loop-place.place ≡ c.args.to = omega arith in
+    rw last at c.loop-place.invariant.3
 
 pub append_spaces_spec : {M : Type 1} → statement M
 append_spaces_spec =

@@ -55,11 +55,10 @@ numbers : (c : tie.After-all_finite)
     (c.all_finite.result otherwise 11) ≡ bytes_fault a.shape.now a.edges a.coefficients a.file.now
 numbers c =
     let test = c.before.before in
-    let at_body = test in
     let a = (entry (framed test.before)).args in
-    let from = at_body.body_at-body.result in
+    let from = test.body_at-body.result in
     let body : take (length a.file.now - from) (drop from a.file.now) ≡ body_in a.file.now =
-    rest from a.file.now ∙ ap (λ (n : ℕ). drop n a.file.now) at_body.body_at-body.ensures in
+    rest from a.file.now ∙ ap (λ (n : ℕ). drop n a.file.now) test.body_at-body.ensures in
     numbers_decide a.shape.now a.edges a.coefficients a.file.now _ (both test.before) test.if-fault-ne0.false _
     (c.all_finite.ensures ∙ ap (λ (t : List ℕ). all_finite (floats_in t (a.edges * a.coefficients))) body)
 
@@ -74,8 +73,7 @@ body_at_requires c κs = omega (arith, inside c)
 
 length_fault_requires : tie.Need-length_fault-length-requires
 length_fault_requires c κs =
-    let given = c in
-    (rw c.body_at-body.ensures (inside c.before), given.requires.1, given.requires.2)
+    (rw c.body_at-body.ensures (inside c.before), c.requires.1, c.requires.2)
 
 first_fault_requires : tie.Need-first_fault-fault-requires
 first_fault_requires c κs = search rules

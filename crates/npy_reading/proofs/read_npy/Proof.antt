@@ -50,9 +50,8 @@ returns c =
 
 returns_2 : tie.Need-returns-in-Refused
 returns_2 c =
-    let at = c in
     told _ _ _ _ _
-    (refused_to_8 _ _ _ _ _ _ _ _ (sym at.check_model-checked.ensures ∙ at.in-Refused.is))
+    (refused_to_8 _ _ _ _ _ _ _ _ (sym c.check_model-checked.ensures ∙ c.in-Refused.is))
 
 same_length_2 : tie.Need-shape_of-model
 same_length_2 c = search rules

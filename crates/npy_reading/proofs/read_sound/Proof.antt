@@ -46,8 +46,7 @@ returns_3 : tie.Need-returns
 returns_3 c =
     let taken = c.before.before in
     let found = taken.before.before in
-    let test = found in
-    file_decides _ _ _ _ _ test.if-layer-widths.false (sym found.all_finite.ensures ∙ not-false _ found.if-not-all_finite.false-raw)
+    file_decides _ _ _ _ _ found.if-layer-widths.false (sym found.all_finite.ensures ∙ not-false _ found.if-not-all_finite.false-raw)
     found.find_layer-found.ensures taken.take_file.ensures
 
 pub read_sound_spec : {M : Type 1} → statement M

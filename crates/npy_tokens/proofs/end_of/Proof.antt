@@ -26,8 +26,7 @@ is_in_requires c κs = search rules
 
 returns : tie.Need-returns-then-not-is_in invariant-loop decreases-loop
 returns c =
-    let place = c in
-    ends_at_other _ _ _ _ place.loop-end.invariant place.loop-end-test.true
+    ends_at_other _ _ _ _ c.loop-end.invariant c.loop-end-test.true
     (sym c.is_in.ensures ∙ not-true _ c.if-not-is_in.true-raw)
 
 add_end : tie.Need-overflow_add-end invariant-loop decreases-loop
@@ -38,8 +37,7 @@ loop_less c = omega arith
 
 loop_again : tie.Need-loop-end-preserved invariant-loop decreases-loop
 loop_again c =
-    let place = c in
-    walks_on _ _ _ _ place.loop-end.invariant place.loop-end-test.true
+    walks_on _ _ _ _ c.loop-end.invariant c.loop-end-test.true
     (sym c.is_in.ensures ∙ not-false _ c.if-not-is_in.false-raw)
 
 returns_2 : tie.Need-returns invariant-loop decreases-loop

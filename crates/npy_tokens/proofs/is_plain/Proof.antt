@@ -17,27 +17,24 @@ sub_digits c = search rules
 
 returns : tie.Need-returns-then-digits-eq0
 returns c =
-    let given = c in
-    sym (plain_none _ (part_length _ _ _ given.requires.0 given.requires.1 ∙ c.if-digits-eq0.true))
+    sym (plain_none _ (part_length _ _ _ c.requires.0 c.requires.1 ∙ c.if-digits-eq0.true))
 
 returns_2 : tie.Need-returns-then-digits-eq1
 returns_2 c =
-    let given = c in
-    sym (plain_one _ (part_length _ _ _ given.requires.0 given.requires.1 ∙ c.if-digits-eq1.true))
+    sym (plain_one _ (part_length _ _ _ c.requires.0 c.requires.1 ∙ c.if-digits-eq1.true))
 
 shared_slice_read_result : tie.Need-bounds-text-from
 shared_slice_read_result c = omega (arith, c.requires)
 
 returns_3 : tie.Need-returns
 returns_3 c =
-    let given = c in
-    let text = given.args.text.now in
-    let digits = part text given.args.from given.args.end in
+    let text = c.args.text.now in
+    let digits = part text c.args.from c.args.end in
     let several : 2 ≤ length digits =
-    rw (part_length text _ _ given.requires.0 given.requires.1) (omega (arith, c.if-digits-eq1.false, c.if-digits-eq0.false)) in
-    let first : get_or digits 0 0 ≡ get_or text given.args.from 0 =
-    part_at_lem text _ _ given.requires.0 given.requires.1 0 (omega (arith, c.if-digits-eq1.false, c.if-digits-eq0.false))
-    ∙ ap (λ (p : ℕ). get_or text p 0) (add-zero given.args.from) in
+    rw (part_length text _ _ c.requires.0 c.requires.1) (omega (arith, c.if-digits-eq1.false, c.if-digits-eq0.false)) in
+    let first : get_or digits 0 0 ≡ get_or text c.args.from 0 =
+    part_at_lem text _ _ c.requires.0 c.requires.1 0 (omega (arith, c.if-digits-eq1.false, c.if-digits-eq0.false))
+    ∙ ap (λ (p : ℕ). get_or text p 0) (add-zero c.args.from) in
     sym (plain_more digits several ∙ ap (λ (d : ℕ). not (eqb d 48)) first)
 
 pub is_plain_spec : {M : Type 1} → statement M

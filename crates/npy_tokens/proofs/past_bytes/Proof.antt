@@ -36,13 +36,12 @@ loop_less c = omega arith
 
 loop_again : tie.Need-loop-i-preserved invariant-loop decreases-loop
 loop_again c =
-    let turn = c in
     let found = c.past_byte-next.ensures in
-    let bytes = turn.args.bytes.now in (
+    let bytes = c.args.bytes.now in (
       omega arith,
       found.inside,
-      turn.loop-i.invariant.2 ∙ past_more bytes _ turn.loop-i.i turn.loop-i-test.true
-          ∙ ap (after_bytes (drop (turn.loop-i.i + 1) bytes)) (sym found.rest),
+      c.loop-i.invariant.2 ∙ past_more bytes _ c.loop-i.i c.loop-i-test.true
+          ∙ ap (after_bytes (drop (c.loop-i.i + 1) bytes)) (sym found.rest),
     )
 
 returns : tie.Need-returns invariant-loop decreases-loop

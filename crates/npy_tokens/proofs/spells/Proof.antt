@@ -25,37 +25,33 @@ alike : (c : tie.At-loop-i invariant-loop decreases-loop)
     → length (part c.args.text.now c.args.from c.args.end)
     ≡ length c.args.word.now
 alike c =
-    let given = c in
-    part_length _ _ _ given.requires.0 given.requires.1 ∙ c.if-end-from.false
+    part_length _ _ _ c.requires.0 c.requires.1 ∙ c.if-end-from.false
 
 -- the byte of this turn decides, or the rest
 here : (c : tie.In-loop-i invariant-loop decreases-loop)
     → let at = c.loop-i.i in
-    let given = c in
-    let text = part given.args.text.now given.args.from given.args.end in
-    let word = given.args.word.now in
+    let text = part c.args.text.now c.args.from c.args.end in
+    let word = c.args.word.now in
     same text word
-    ≡ eqb (get_or given.args.text.now (given.args.from + at) 0) (get_or word at 0)
+    ≡ eqb (get_or c.args.text.now (c.args.from + at) 0) (get_or word at 0)
     && same (drop (at + 1) text) (drop (at + 1) word)
 here c =
     let at = c.loop-i.i in
-    let given = c in
-    let text = part given.args.text.now given.args.from given.args.end in
-    let word = given.args.word.now in
+    let text = part c.args.text.now c.args.from c.args.end in
+    let word = c.args.word.now in
     let size = alike c.before in
-    let whole = part_length given.args.text.now _ _ given.requires.0 given.requires.1 in
+    let whole = part_length c.args.text.now _ _ c.requires.0 c.requires.1 in
     c.loop-i.invariant.1 ∙ same_from text word at (rw size c.loop-i-test.true) c.loop-i-test.true
     ∙ ap (λ (b : ℕ). eqb b (get_or word at 0) && same (drop (at + 1) text) (drop (at + 1) word))
-    (part_at_lem _ _ _ given.requires.0 given.requires.1 at (omega (arith, size, whole, c.loop-i-test.true)))
+    (part_at_lem _ _ _ c.requires.0 c.requires.1 at (omega (arith, size, whole, c.loop-i-test.true)))
 
 sub_if1 : tie.Need-overflow_sub-end invariant-loop decreases-loop
 sub_if1 c = c.requires.0
 
 returns : tie.Need-returns-then-end-from invariant-loop decreases-loop
 returns c =
-    let given = c in
     sym (same_other_length _ _
-    (λ e. c.if-end-from.true (sym (part_length _ _ _ given.requires.0 given.requires.1) ∙ e)))
+    (λ e. c.if-end-from.true (sym (part_length _ _ _ c.requires.0 c.requires.1) ∙ e)))
 
 loop_holds : tie.Need-loop-i-init invariant-loop decreases-loop
 loop_holds c = (omega arith, refl)

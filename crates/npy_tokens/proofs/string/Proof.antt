@@ -26,14 +26,12 @@ past_byte_requires c κs = search rules
 returns : tie.Need-returns-then-is_quote
 returns c =
     let quote = c.before.before in
-    let here = quote in
-    string_found _ _ _ here.end_of-open.ensures _ _ here.if-open-text.true
+    string_found _ _ _ quote.end_of-open.ensures _ _ quote.if-open-text.true
     (sym quote.is_quote.ensures ∙ quote.if-is_quote.true) c.end_of-end.ensures c.past_byte-next.ensures
 
 returns_2 : tie.Need-returns-else-is_quote
 returns_2 c =
-    let here = c in
-    no_quote _ _ _ here.end_of-open.ensures here.if-open-text.true (sym c.is_quote.ensures ∙ c.if-is_quote.false)
+    no_quote _ _ _ c.end_of-open.ensures c.if-open-text.true (sym c.is_quote.ensures ∙ c.if-is_quote.false)
 
 returns_3 : tie.Need-returns-else-open-text
 returns_3 c = no_string _ _ _ c.end_of-open.ensures c.if-open-text.false

@@ -37,11 +37,10 @@ loop_less c = omega arith
 
 loop_again : tie.Need-loop-place-preserved invariant-loop decreases-loop
 loop_again c =
-    let walk = c in
-    let digits = walk.requires in (
+    let digits = c.requires in (
       omega arith,
       omega arith,
-      value_more _ _ _ _ _ walk.loop-place.invariant.0 (omega (arith, digits.inside)) walk.loop-place.invariant.2 c.with_digit-n.ensures,
+      value_more _ _ _ _ _ c.loop-place.invariant.0 (omega (arith, digits.inside)) c.loop-place.invariant.2 c.with_digit-n.ensures,
     )
 
 returns : tie.Need-returns invariant-loop decreases-loop

@@ -21,15 +21,13 @@ is_plain_requires c κs = search rules
 returns : tie.Need-returns-then-is_plain
 returns c =
     let number = c.before.before in
-    let digits = number in
-    number_found _ _ _ digits.end_of-from.ensures _ _ digits.end_of-end.ensures number.value-value.ensures
+    number_found _ _ _ number.end_of-from.ensures _ _ number.end_of-end.ensures number.value-value.ensures
     (sym c.is_plain.ensures ∙ c.if-is_plain.true)
 
 returns_2 : tie.Need-returns
 returns_2 c =
     let number = c.before.before in
-    let digits = number in
-    no_number _ _ _ digits.end_of-from.ensures _ _ digits.end_of-end.ensures number.value-value.ensures
+    no_number _ _ _ number.end_of-from.ensures _ _ number.end_of-end.ensures number.value-value.ensures
     (sym c.is_plain.ensures ∙ c.if-is_plain.false)
 
 pub whole_number_spec : {M : Type 1} → statement M

@@ -86,14 +86,11 @@ same_length_2 c = search rules
 
 returns : tie.Need-returns-then-l-eq0
 returns c =
-    let at-layer-forward = c in
-    let at-if1 = at-layer-forward in
-    let start = at-if1 in
-    let e = eq-eqb _ _ at-if1.if-l-eq0.true in
-    let s = start.args in
+    let e = eq-eqb _ _ c.if-l-eq0.true in
+    let s = c.args in
     let B = basis_of s.mesh.grid in
     let a' = front_in B s.params.now s.w s.n s.second.now s.first.now _
-    at-layer-forward.layer_forward.ensures in
+    c.layer_forward.ensures in
     record { finite = c.all_finite.ensures ∙ ap all_finite (fronted B _ _ _ _ _ a') ∙ rw e; first = rw e a'; second = rw e }
 
 same_length_3 : tie.Need-shape_of-first-else-l-eq0
@@ -104,14 +101,11 @@ same_length_4 c = search rules
 
 returns_2 : tie.Need-returns-else-l-eq0
 returns_2 c =
-    let at-layer-forward2 = c in
-    let at-if1 = at-layer-forward2 in
-    let start = at-if1 in
-    let e = ne_eqb _ _ at-if1.if-l-eq0.false in
-    let s = start.args in
+    let e = ne_eqb _ _ c.if-l-eq0.false in
+    let s = c.args in
     let B = basis_of s.mesh.grid in
     let b' = front_in B s.params.now s.w s.n s.first.now s.second.now _
-    at-layer-forward2.layer_forward-else-l-eq0.ensures in
+    c.layer_forward-else-l-eq0.ensures in
     record { finite = c.all_finite-else-l-eq0.ensures ∙ ap all_finite (fronted B _ _ _ _ _ b') ∙ rw e; first = rw e; second = rw e b' }
 
 pub turn_spec : {M : Type 1} → statement M

@@ -70,13 +70,12 @@ part_input_gradient_end c = omega (arith, known c.before)
 input_gradient_requires : tie.Need-input_gradient-gradient-requires invariant-loop decreases-loop
 input_gradient_requires c κs =
     let t = turn c in
-    let s = t in
-    let a = s.args in
+    let a = t.args in
     let size = piece_length t.loop-i.work (a.to + a.w) a.n (omega (arith, known t)) in (
-      s.requires.0,
-      s.requires.1,
-      rw size (record { layer = s.requires.2.layer; input = t.loop-i-test.true }),
-      s.requires.3,
+      t.requires.0,
+      t.requires.1,
+      rw size (record { layer = t.requires.2.layer; input = t.loop-i-test.true }),
+      t.requires.3,
     )
 
 mul_work : tie.Need-offset_bounds-work-place invariant-loop decreases-loop

@@ -76,11 +76,10 @@ part_input_gradient_end_2 c = omega (arith, known c.before.before)
 input_gradient_requires : tie.Need-input_gradient-gradient-requires invariant-loop decreases-loop
 input_gradient_requires c κs =
     let t = turn c.before in
-    let s = t in
-    let a = s.args in
+    let a = t.args in
     let xs = piece_length t.loop-i.work a.from a.w (omega (arith, known t)) in
     let us = piece_length t.loop-i.work (a.to + a.w) a.n (omega (arith, known t)) in
-    (s.requires.0.intervals, rw xs t.loop-i-test.true, rw (xs, us) s.requires.2.layer.there, s.requires.1)
+    (t.requires.0.intervals, rw xs t.loop-i-test.true, rw (xs, us) t.requires.2.layer.there, t.requires.1)
 
 mul_work : tie.Need-offset_bounds-work-place invariant-loop decreases-loop
 mul_work c = omega (arith, known (turn c.before.before))

@@ -88,8 +88,7 @@ loop_less c = omega arith
 
 loop_again : tie.Need-loop-o-preserved invariant-loop decreases-loop
 loop_again c =
-    let t = c in
-    (omega arith, sum_more _ _ _ _ _ t.loop-o.invariant.1 (rw (c.edge_by.ensures, cut)))
+    (omega arith, sum_more _ _ _ _ _ c.loop-o.invariant.1 (rw (c.edge_by.ensures, cut)))
 
 returns : tie.Need-returns invariant-loop decreases-loop
 returns c =

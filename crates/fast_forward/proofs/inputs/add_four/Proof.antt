@@ -108,8 +108,7 @@ same_length c = c.loop-o.invariant.size
 
 returns : tie.Need-returns invariant-loop decreases-loop
 returns c =
-    let made = c in
-    all_added_lem (start c.before).requires.2 _ _ _ _ _ made.silu_by-silu.ensures made.values_by-four.ensures
+    all_added_lem (start c.before).requires.2 _ _ _ _ _ c.silu_by-silu.ensures c.values_by-four.ensures
     (added_all c.loop-o.invariant (omega arith))
 
 pub add_four_spec : {M : Type 1} → statement M

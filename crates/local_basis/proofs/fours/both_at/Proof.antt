@@ -27,12 +27,11 @@ no_eight_requires c κs = tt
 returns : tie.Need-returns-then-mesh-at
 returns c =
     let none = c.no_eight.ensures in
-    let at = c in
     let outside = c.if-mesh-at.true in
     record {
       start = rw (none.0, none.1);
-      values = rw none.0 (values_none at.requires at.interval-at.ensures outside);
-      slopes = rw none.1 (slopes_none at.requires at.interval-at.ensures outside);
+      values = rw none.0 (values_none c.requires c.interval-at.ensures outside);
+      slopes = rw none.1 (slopes_none c.requires c.interval-at.ensures outside);
     }
 
 squares_of_requires : tie.Need-squares_of-squares-requires
@@ -60,13 +59,12 @@ placed_requires_2 c κs =
 returns_2 : tie.Need-returns
 returns_2 c =
     let risen = c.before in
-    let cubed = risen in
     let row = squared risen in
     let at = searched row in
-    let begins = rises_start _ _ _ risen.rises.ensures ∙ sym (cubes_start _ _ _ _ cubed.cubes.ensures) in
+    let begins = rises_start _ _ _ risen.rises.ensures ∙ sym (cubes_start _ _ _ _ risen.cubes.ensures) in
     record {
       start = rw (c.placed-2.ensures, risen.placed.ensures) (placed_together _ _ _ _ begins);
-      values = rw (risen.placed.ensures, cubed.cubes.ensures)
+      values = rw (risen.placed.ensures, risen.cubes.ensures)
           (values_some at.before.requires at.interval-at.ensures row.if-mesh-at.false row.squares_of-squares.ensures);
       slopes = rw (c.placed-2.ensures, risen.rises.ensures)
           (slopes_some at.before.requires at.interval-at.ensures row.if-mesh-at.false row.squares_of-squares.ensures);

@@ -19,8 +19,7 @@ no_four_requires c κs = search rules
 
 returns : tie.Need-returns-then-mesh-at
 returns c =
-    let at = c in
-    rw c.no_four.ensures (slopes_none at.requires at.interval-at.ensures c.if-mesh-at.true)
+    rw c.no_four.ensures (slopes_none c.requires c.interval-at.ensures c.if-mesh-at.true)
 
 squares_of_requires : tie.Need-squares_of-requires
 squares_of_requires c κs = search rules

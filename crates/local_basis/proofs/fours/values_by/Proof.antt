@@ -20,8 +20,7 @@ no_four_requires c κs = search rules
 
 returns : tie.Need-returns-then-intervals-at
 returns c =
-    let at = c in
-    rw c.no_four.ensures (values_none (at.requires, refl) at.interval-at.ensures c.if-intervals-at.true)
+    rw c.no_four.ensures (values_none (c.requires, refl) c.interval-at.ensures c.if-intervals-at.true)
 
 squares_of_requires : tie.Need-squares_of-requires
 squares_of_requires c κs = search rules

@@ -10,16 +10,14 @@ down_one_requires c κs = search rules
 
 returns : tie.Need-returns-then-n-eq1
 returns c =
-    let start = c in
-    down_1 start.args.four _ _ c.if-n-eq1.true c.down_one-one.ensures
+    down_1 c.args.four _ _ c.if-n-eq1.true c.down_one-one.ensures
 
 down_one_requires_2 : tie.Need-down_one-two-requires
 down_one_requires_2 c κs = search rules
 
 returns_2 : tie.Need-returns-then-n-eq2
 returns_2 c =
-    let at-down-one = c in
-    down_2 at-down-one.args.four _ _ _ c.if-n-eq2.true at-down-one.down_one-one.ensures
+    down_2 c.args.four _ _ _ c.if-n-eq2.true c.down_one-one.ensures
     c.down_one-two.ensures
 
 down_one_requires_3 : tie.Need-down_one-requires
@@ -31,8 +29,7 @@ returns_3 c =
     let at-down-one2 = at-if2.before in
     let at-if1 = at-down-one2.before in
     let at-down-one = at-if1.before in
-    let start = at-down-one in
-    down_3 start.args.four _ _ _ _ (omega (arith, start.requires, at-if1.if-n-eq1.false, at-if2.if-n-eq2.false))
+    down_3 at-down-one.args.four _ _ _ _ (omega (arith, at-down-one.requires, at-if1.if-n-eq1.false, at-if2.if-n-eq2.false))
     at-down-one.down_one-one.ensures
     at-down-one2.down_one-two.ensures c.down_one.ensures
 

@@ -13,8 +13,7 @@ down_requires c κs = search rules
 
 returns : tie.Need-returns-then-at-lt3
 returns c =
-    let start = c in
-    placed_down start.args.intervals start.args.at start.args.four _ (omega (arith, c.if-at-lt3.true))
+    placed_down c.args.intervals c.args.at c.args.four _ (omega (arith, c.if-at-lt3.true))
     c.down.ensures
 
 add_last : tie.Need-overflow_add-last
@@ -28,14 +27,12 @@ up_requires c κs = search rules
 
 returns_2 : tie.Need-returns-then-last-at
 returns_2 c =
-    let start = c in
-    placed_up start.args.intervals start.args.at start.args.four _
+    placed_up c.args.intervals c.args.at c.args.four _
     (omega (arith, c.if-at-lt3.false)) c.up.ensures
 
 returns_3 : tie.Need-returns
 returns_3 c =
-    let start = c in
-    placed_there start.args.intervals start.args.at start.args.four (omega (arith, c.if-at-lt3.false))
+    placed_there c.args.intervals c.args.at c.args.four (omega (arith, c.if-at-lt3.false))
     (omega (arith, c.if-last-at.false))
 
 pub placed_spec : {M : Type 1} → statement M

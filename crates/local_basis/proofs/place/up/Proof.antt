@@ -10,19 +10,16 @@ up_one_requires c κs = search rules
 
 returns : tie.Need-returns-then-n-eq1
 returns c =
-    let start = c in
-    up_1 start.args.four _ _ c.if-n-eq1.true c.up_one-one.ensures
+    up_1 c.args.four _ _ c.if-n-eq1.true c.up_one-one.ensures
 
 up_one_requires_2 : tie.Need-up_one-two-requires
 up_one_requires_2 c κs =
     let at-up-one = c.before in
-    let start = at-up-one in
-    omega (arith, start.requires, c.if-n-eq1.false, up_start start.args.four _ at-up-one.up_one-one.ensures)
+    omega (arith, at-up-one.requires, c.if-n-eq1.false, up_start at-up-one.args.four _ at-up-one.up_one-one.ensures)
 
 returns_2 : tie.Need-returns-then-n-eq2
 returns_2 c =
-    let at-up-one = c in
-    up_2 at-up-one.args.four _ _ _ c.if-n-eq2.true at-up-one.up_one-one.ensures
+    up_2 c.args.four _ _ _ c.if-n-eq2.true c.up_one-one.ensures
     c.up_one-two.ensures
 
 up_one_requires_3 : tie.Need-up_one-requires
@@ -30,13 +27,12 @@ up_one_requires_3 c κs =
     let at-up-one2 = c.before in
     let at-if1 = at-up-one2.before in
     let at-up-one = at-if1.before in
-    let start = at-up-one in
     omega (
       arith,
-      start.requires,
+      at-up-one.requires,
       at-if1.if-n-eq1.false,
       c.if-n-eq2.false,
-      up_start start.args.four _ at-up-one.up_one-one.ensures,
+      up_start at-up-one.args.four _ at-up-one.up_one-one.ensures,
       up_start _ _ at-up-one2.up_one-two.ensures,
     )
 
@@ -46,8 +42,7 @@ returns_3 c =
     let at-up-one2 = at-if2.before in
     let at-if1 = at-up-one2.before in
     let at-up-one = at-if1.before in
-    let start = at-up-one in
-    up_3 start.args.four _ _ _ _ (omega (arith, start.requires, at-if1.if-n-eq1.false, at-if2.if-n-eq2.false))
+    up_3 at-up-one.args.four _ _ _ _ (omega (arith, at-up-one.requires, at-if1.if-n-eq1.false, at-if2.if-n-eq2.false))
     at-up-one.up_one-one.ensures
     at-up-one2.up_one-two.ensures c.up_one.ensures
 

@@ -33,8 +33,7 @@ loop_again c = search rules
 
 returns_2 : tie.Need-returns invariant-loop decreases-loop
 returns_2 c =
-    let at-loop = c in
-    let e : at-loop.loop-at.at ≡ 0 = omega arith in (omega arith, rw e c.requires.2)
+    let e : c.loop-at.at ≡ 0 = omega arith in (omega arith, rw e c.requires.2)
 
 pub down_spec : {M : Type 1} → statement M
 down_spec =

@@ -41,9 +41,8 @@ knot_at_requires_2 c κs = search rules
 returns : tie.Need-returns-then-x-knot_at
 returns c =
     let at-if1 = c.before.before in
-    let at-guess = at-if1 in
-    let x = at-guess.args.x in
-    let near = at-guess.guess-near.ensures in
+    let x = at-if1.args.x in
+    let near = at-if1.guess-near.ensures in
     record {
       inside = λ _. record {
         last = near;

@@ -34,10 +34,9 @@ knot_at_requires c κs = search rules
 returns : tie.Need-returns-then-x-knot_at invariant-loop decreases-loop
 returns c =
     let at-knot-at = c.before in
-    let at-loop = at-knot-at in
     record {
       last = omega arith;
-      from = at-loop.loop-at.invariant.1;
+      from = at-knot-at.loop-at.invariant.1;
       to = rw (← at-knot-at.knot_at.ensures) c.if-x-knot_at.true;
     }
 
@@ -49,19 +48,17 @@ loop_less c = search rules
 
 loop_again : tie.Need-loop-at-preserved invariant-loop decreases-loop
 loop_again c =
-    let at-knot-at = c.before in
-    let start = at-knot-at in (
+    let at-knot-at = c.before in (
       omega arith,
-      step_up _ _ _ (calm_grid start.requires.0 start.requires.4) start.requires.5 (omega arith)
+      step_up _ _ _ (calm_grid at-knot-at.requires.0 at-knot-at.requires.4) at-knot-at.requires.5 (omega arith)
           (rw (← at-knot-at.knot_at.ensures) c.if-x-knot_at.false),
     )
 
 returns_2 : tie.Need-returns invariant-loop decreases-loop
 returns_2 c =
     let at-loop = c.before in
-    let start = at-loop in
-    let e : at-loop.loop-at.at + 1 ≡ start.args.mesh.grid.intervals + 6 = omega arith in
-    record { last = omega arith; from = at-loop.loop-at.invariant.1; to = rw e start.requires.3 }
+    let e : at-loop.loop-at.at + 1 ≡ at-loop.args.mesh.grid.intervals + 6 = omega arith in
+    record { last = omega arith; from = at-loop.loop-at.invariant.1; to = rw e at-loop.requires.3 }
 
 pub up_spec : {M : Type 1} → statement M
 up_spec =

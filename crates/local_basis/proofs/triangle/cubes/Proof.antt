@@ -22,10 +22,9 @@ returns : tie.Need-returns
 unfolding cubes_of
 returns c =
     let at_second = c.before.before in
-    let at_first = at_second in
     λ i. record {
-      start = at_first.less.ensures i;
-      first = at_first.falling.ensures i;
+      start = at_second.less.ensures i;
+      first = at_second.falling.ensures i;
       second = at_second.blend.ensures i;
       third = c.blend-2.ensures i;
       fourth = c.rising.ensures i;

@@ -20,13 +20,12 @@ returns : tie.Need-returns
 unfolding rises_of
 returns c =
     let second = c.before.before.before in
-    let first = second in
-    let low = first.portion-rise_low.ensures in
+    let low = second.portion-rise_low.ensures in
     let middle = second.portion-rise_middle.ensures in
     let high = c.portion-rise_high.ensures in
     λ i. record {
       start = c.less.ensures i;
-      first = zero32 ⊖ low i;
+      second = zero32 ⊖ low i;
       second = low i ⊖ middle i;
       third = middle i ⊖ high i;
       fourth = high i ⊖ zero32;

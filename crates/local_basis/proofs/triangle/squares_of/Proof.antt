@@ -67,10 +67,9 @@ returns c =
     let at-knot2 = at-knot3.before in
     let at-less2 = at-knot2.before in
     let at-knot1 = at-less2.before in
-    let at-less1 = at-knot1 in
-    let a = at-less1.args in
+    let a = at-knot1.args in
     let k1 : at-knot1.knot_at-k1.result ≡ knot_of a.mesh.grid (a.at - 2) =
-    rw (at-knot1.knot_at-k1.ensures, at-less1.less.ensures) in
+    rw (at-knot1.knot_at-k1.ensures, at-knot1.less.ensures) in
     let k2 : at-knot2.knot_at-k2.result ≡ knot_of a.mesh.grid (a.at - 1) =
     rw (at-knot2.knot_at-k2.ensures, at-less2.less-2.ensures) in
     let k3 = at-knot3.knot_at-k3.ensures in

@@ -28,14 +28,13 @@ returns : tie.Need-returns
 unfolding is_closed
 returns c =
     let newline = c.before.before in
-    let brace = newline in
-    let text = brace.args.text.now in
+    let text = newline.args.text.now in
     let last = newline.end_of-newline.result in
     let whole = take_all (length text - last) (drop last text) (rw length-drop (omega arith)) in
     c.spells.ensures
     ∙ ap (λ (t : List ℕ). same t (10 ∷ []))
     (whole ∙ newline.end_of-newline.ensures.place.rest
-    ∙ ap (behind Space) (brace.past_token-brace.ensures.rest ∙ ap (after_token 125) brace.past_optional_comma-last.ensures.rest))
+    ∙ ap (behind Space) (newline.past_token-brace.ensures.rest ∙ ap (after_token 125) newline.past_optional_comma-last.ensures.rest))
 
 pub is_closed_spec : {M : Type 1} → statement M
 is_closed_spec =

@@ -25,10 +25,9 @@ returns_2 : tie.Need-returns
 unfolding single_word
 returns_2 c =
     λ sizes s w.
-    let test = c in
-    let value = test.string-value.ensures in
-    takes_descr _ sizes s _ w _ _ _ test.if-found.false value.place
-    (test.spells-asked.ensures ∙ ap (λ (t : List ℕ). same t single_word) value.content)
+    let value = c.string-value.ensures in
+    takes_descr _ sizes s _ w _ _ _ c.if-found.false value.place
+    (c.spells-asked.ensures ∙ ap (λ (t : List ℕ). same t single_word) value.content)
 
 pub take_descr_spec : {M : Type 1} → statement M
 take_descr_spec =

@@ -21,13 +21,12 @@ returns : tie.Need-returns
 unfolding entry_of
 returns c =
     λ s w.
-    let value = c in
-    let key = value.string-key.ensures in
-    let text = value.args.text.now in
-    let name = value.string-key.result in
+    let key = c.string-key.ensures in
+    let text = c.args.text.now in
+    let name = c.string-key.result in
     let words : part text name.from name.end ≡ string_in s.rest = key.content ∙ ap string_in w.place.rest in
-    let rest : drop value.past_token-value.result text ≡ after_token 58 (after_string s.rest) =
-    value.past_token-value.ensures.rest ∙ ap (after_token 58) (key.place.rest ∙ ap after_string w.place.rest) in
+    let rest : drop c.past_token-value.result text ≡ after_token 58 (after_string s.rest) =
+    c.past_token-value.ensures.rest ∙ ap (after_token 58) (key.place.rest ∙ ap after_string w.place.rest) in
     rw (← words, ← rest) (c.take_value.ensures s w)
 
 pub take_entry_spec : {M : Type 1} → statement M

@@ -18,9 +18,8 @@ truth_at_requires c κs = search rules
 returns_2 : tie.Need-returns
 returns_2 c =
     λ sizes s w.
-    let value = c in
-    takes_order _ sizes s _ w _ _ _ value.if-found.false value.truth_at-value.ensures.place
-    (ap not value.truth_at-value.ensures.holds)
+    takes_order _ sizes s _ w _ _ _ c.if-found.false c.truth_at-value.ensures.place
+    (ap not c.truth_at-value.ensures.holds)
 
 pub take_order_spec : {M : Type 1} → statement M
 take_order_spec = tie.close (tie.spec failed_requires returns truth_at_requires returns_2)

@@ -16,8 +16,7 @@ sizes_at_requires c κs = search rules
 returns_2 : tie.Need-returns
 returns_2 c =
     λ s w.
-    let value = c in
-    takes_shape _ _ s _ w _ _ _ value.if-found.false value.sizes_at-value.ensures.place value.sizes_at-value.ensures.asked
+    takes_shape _ _ s _ w _ _ _ c.if-found.false c.sizes_at-value.ensures.place c.sizes_at-value.ensures.asked
 
 pub take_shape_spec : {M : Type 1} → statement M
 take_shape_spec = tie.close (tie.spec failed_requires returns sizes_at_requires returns_2)

@@ -18,9 +18,8 @@ past_bytes_requires c κs = search rules
 returns : tie.Need-returns-then-stands_at
 unfolding true_word false_word
 returns c =
-    let test = c in
-    let here = test.end_of-word.ensures.place.rest in
-    let holds = sym test.if-stands_at.true ∙ test.stands_at.ensures ∙ ap (begins_with 84) here in
+    let here = c.end_of-word.ensures.place.rest in
+    let holds = sym c.if-stands_at.true ∙ c.stands_at.ensures ∙ ap (begins_with 84) here in
     record {
       holds = holds;
       place = record {
@@ -35,9 +34,8 @@ past_bytes_requires_2 c κs = search rules
 returns_2 : tie.Need-returns
 unfolding true_word false_word
 returns_2 c =
-    let test = c in
-    let here = test.end_of-word.ensures.place.rest in
-    let holds = sym test.if-stands_at.false ∙ test.stands_at.ensures ∙ ap (begins_with 84) here in
+    let here = c.end_of-word.ensures.place.rest in
+    let holds = sym c.if-stands_at.false ∙ c.stands_at.ensures ∙ ap (begins_with 84) here in
     record {
       holds = holds;
       place = record {

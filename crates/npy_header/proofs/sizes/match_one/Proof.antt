@@ -15,13 +15,11 @@ add_t11 c = search rules
 
 returns : tie.Need-returns-then-shape-count
 returns c =
-    let given = c in
-    one_found _ _ _ given.requires.0 c.if-count-shape.true c.if-shape-count.true
+    one_found _ _ _ c.requires.0 c.if-count-shape.true c.if-shape-count.true
 
 returns_2 : tie.Need-returns-else-shape-count
 returns_2 c =
-    let given = c in
-    one_other _ _ _ c.if-count-shape.true c.if-shape-count.false given.requires.0
+    one_other _ _ _ c.if-count-shape.true c.if-shape-count.false c.requires.0
 
 returns_3 : tie.Need-returns-else-count-shape
 returns_3 c = one_too_many _ _ _ c.requires.1 c.if-count-shape.false

@@ -53,9 +53,8 @@ loop_again c =
 
 returns : tie.Need-returns invariant-loop decreases-loop
 returns c =
-    let done = c in
-    let whole = done.loop-walk.invariant in
-    all_read _ _ _ done.loop-walk.walk done.loop-walk-test.false whole.0 whole.1 whole.2 whole.3
+    let whole = c.loop-walk.invariant in
+    all_read _ _ _ c.loop-walk.walk c.loop-walk-test.false whole.0 whole.1 whole.2 whole.3
 
 pub sizes_at_spec : {M : Type 1} → statement M
 sizes_at_spec =

@@ -21,8 +21,7 @@ add_t11 c = search rules
 returns : tie.Need-returns-then-stands_at
 returns c =
     let test = c.before in
-    let given = test in
-    closes _ _ _ _ test.end_of-here.ensures given.requires.1 (sym c.if-stands_at.true ∙ test.stands_at.ensures)
+    closes _ _ _ _ test.end_of-here.ensures test.requires.1 (sym c.if-stands_at.true ∙ test.stands_at.ensures)
 
 whole_number_requires : tie.Need-whole_number-number-requires
 whole_number_requires c κs = search rules

@@ -6,9 +6,8 @@ use Rattle.touched_layer.proofs.layer.mark_input.Tie as tie
 
 mark_by_four_requires : tie.Need-mark_by_four-requires
 mark_by_four_requires c κs =
-    let branch = c in
-    let p = branch.requires in
-    (p.0, branch.if-mesh.true, p.1, p.2)
+    let p = c.requires in
+    (p.0, c.if-mesh.true, p.1, p.2)
 
 mark_one_by_one_requires : tie.Need-mark_one_by_one-requires
 mark_one_by_one_requires c κs =

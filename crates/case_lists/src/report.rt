@@ -1,54 +1,53 @@
 // What the program prints, and the counts that it prints from.
-use libc::STDOUT_FILENO;
+use std::io;
 
 // One more case of this tag. No list has 2^64 lines, so no count wraps.
 pub fn count(cases: &mut [u64; 256], tag: u8) {
     let i = tag as usize;
-    cases[i] = std::num::wrapping_add_u64(cases[i], 1);
+    cases[i] = cases[i].wrapping_add(1);
 }
 
-pub fn differs(name: &[u8], line: u64) {
-    place(name, line);
-    io::write_all(STDOUT_FILENO, b" differs\n");
+pub fn differs(rt: &impl Print, name: &[u8], line: u64) -> io::Result<()> {
+    place(rt, name, line)?;
+    println!(rt; " differs")
 }
 
-pub fn malformed(name: &[u8], line: u64) {
-    place(name, line);
-    io::write_all(STDOUT_FILENO, b" malformed\n");
+pub fn malformed(rt: &impl Print, name: &[u8], line: u64) -> io::Result<()> {
+    place(rt, name, line)?;
+    println!(rt; " malformed")
 }
 
-fn place(name: &[u8], line: u64) {
-    io::write_all(STDOUT_FILENO, name);
-    io::write_all(STDOUT_FILENO, b" line ");
-    io::print_decimal(STDOUT_FILENO, line);
+fn place(rt: &impl Print, name: &[u8], line: u64) -> io::Result<()> {
+    rt.write_all(name)?;
+    print!(rt; " line {line}")
 }
 
-pub fn unread(name: &[u8], why: &[u8]) {
-    io::write_all(STDOUT_FILENO, name);
-    io::write_all(STDOUT_FILENO, b" ");
-    io::write_all(STDOUT_FILENO, why);
-    io::write_all(STDOUT_FILENO, b"\n");
+pub fn unread(rt: &impl Print, name: &[u8], why: &[u8]) -> io::Result<()> {
+    rt.write_all(name)?;
+    rt.write_all(b" ")?;
+    rt.write_all(why)?;
+    rt.write_all(b"\n")
 }
 
 // A line for each tag that occurs.
-pub fn tallies(name: &[u8], agree: &[u64; 256], differ: &[u64; 256]) {
-    let mut tag: usize = 0;
-    while tag < 256 {
-        tally(name, tag as u8, agree[tag], differ[tag]);
-        tag += 1;
+pub fn tallies(
+    rt: &impl Print,
+    name: &[u8],
+    agree: &[u64; 256],
+    differ: &[u64; 256],
+) -> io::Result<()> {
+    for tag in 0..=u8::MAX {
+        let i = tag as usize;
+        tally(rt, name, tag, agree[i], differ[i])?;
     }
+    Ok(())
 }
 
-fn tally(name: &[u8], tag: u8, agree: u64, differ: u64) {
-    if agree == 0 {
-        if differ == 0 {
-            return;
-        }
+fn tally(rt: &impl Print, name: &[u8], tag: u8, agree: u64, differ: u64) -> io::Result<()> {
+    if agree == 0 && differ == 0 {
+        return Ok(());
     }
-    io::write_all(STDOUT_FILENO, name);
-    io::write_all(STDOUT_FILENO, &[b' ', tag, b' ']);
-    io::print_decimal(STDOUT_FILENO, agree);
-    io::write_all(STDOUT_FILENO, b" agree ");
-    io::print_decimal(STDOUT_FILENO, differ);
-    io::write_all(STDOUT_FILENO, b" differ\n");
+    rt.write_all(name)?;
+    rt.write_all(&[b' ', tag, b' '])?;
+    println!(rt; "{agree} agree {differ} differ")
 }

@@ -1,13 +1,30 @@
 // Program: the listing of the image on standard input (R15.1). Its `stdin` and `stdout` are the example of R16.4.
 #![tactic(auto)]
 
-use libc::{STDIN_FILENO, STDOUT_FILENO};
+ghost use Rattle.std.specs.Prelude.{◌≤◌, length};
 
-fn main() {
-    // One byte more than the longest image that is listed tells a longer one. A failed read counts as the input's end.
+use std::io;
+use std::io::Read;
+
+// Reads until `image` is full or the input ends, and answers how many bytes were read. A failed read counts as the input's end.
+fn read_image(input: &mut impl Read, image: &mut [u8]) -> usize
+    ensures { result ≤ length image.new }
+{
+    let mut filled = 0;
+    while filled < image.len() {
+        match input.read(&mut image[filled..]) {
+            Ok(0) | Err(_) => break,
+            Ok(count) => filled += count,
+        }
+    }
+    filled
+}
+
+fn main(rt: HostRuntime) -> io::Result<()> {
+    // One byte more than the longest image that is listed tells a longer one.
     let mut image = [0u8; 65537];
-    let length = io::read_full(STDIN_FILENO, &mut image);
+    let length = read_image(&mut rt.stdin(), &mut image);
     let mut text = listing::room();
     let end = listing::render(&mut text, &image[..length]);
-    io::write_all(STDOUT_FILENO, &text[..end]);
+    rt.write_all(&text[..end])
 }

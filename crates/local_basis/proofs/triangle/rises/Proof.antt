@@ -19,13 +19,12 @@ less_requires c κs = tt
 returns : tie.Need-returns
 unfolding rises_of
 returns c =
-    let second = c.before.before.before in
-    let low = second.portion-rise_low.ensures in
-    let middle = second.portion-rise_middle.ensures in
+    let low = c.portion-rise_low.ensures in
+    let middle = c.portion-rise_middle.ensures in
     let high = c.portion-rise_high.ensures in
     λ i. record {
       start = c.less.ensures i;
-      second = zero32 ⊖ low i;
+      first = zero32 ⊖ low i;
       second = low i ⊖ middle i;
       third = middle i ⊖ high i;
       fourth = high i ⊖ zero32;

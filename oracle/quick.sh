@@ -12,10 +12,7 @@ compare() {
 }
 
 oracle/circles.sh
-for archive in leaves estimator; do
-    mkdir -p target/log
-    rt staticlib $archive >target/log/$archive.txt 2>&1 || { cat target/log/$archive.txt; exit 1; }
-done
+for archive in leaves estimator; do scripts/staticlib.sh $archive; done
 compare self-test
 compare leaves --every 4099 --basis 2000
 compare calls --rounds 5000

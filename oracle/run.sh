@@ -47,7 +47,7 @@ install_missing() {
 program=${1:-}
 archives=${ESTIMATOR_LIB:-target/staticlib}
 need_archive() {
-    [ -f "$archives/lib$1.a" ] || stop "no $archives/lib$1.a: \`rt staticlib $1\` makes it"
+    [ -f "$archives/lib$1.a" ] || stop "no $archives/lib$1.a: \`scripts/staticlib.sh $1\` makes it"
 }
 
 # need_calls NAME..: the linker would say the same at length.

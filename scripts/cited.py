@@ -2,12 +2,13 @@
 
 It starts from
   contracts   the `requires` and `ensures` of every `pub fn` in a crate that docs/CALLS.md calls public, of `estimator`
-              those of its C functions;
+              those of the C functions, which `estimator_c` exports with the very same clauses;
   theorems    the types of those in the table `| theorem | in |` of docs/READING.md, with the parameters of the modules
               around them.
 A name is found through the `use` lines of its file, or in the file itself, and all that its definition cites is
 followed in turn. It ends at names of the toolchain and at `specs.declared`, which the toolchain makes of the structs and
-enums in src. A module that the toolchain makes of a function (`proofs.render`) stands for that function's contract.
+enums in src. A module that the toolchain makes of a function (`proofs.render`, `specs.contracts.render`) stands for that
+function's contract.
 A definition is what stands from its signature to the next one; fields belong to their record. Names that are bound
 inside are not told apart from others: where one is also imported, it counts as cited.
 """
@@ -128,7 +129,7 @@ class File:
 
 def parts(name):
     """The words by which a name is used: those around the places of a mixfix name, or itself."""
-    return [p for p in name.split("_") if p] if name.startswith("_") or name.endswith("_") else [name]
+    return [p for p in name.split("◌") if p] if "◌" in name else [name]
 
 
 files = {}
@@ -145,7 +146,7 @@ def clauses_after(text, at):
     """The `requires` and `ensures` between a function's parameters and its body."""
     found = ""
     while True:
-        clause = re.compile(r"\s*(requires|ensures|decreases)\s*\{").match(text, at)
+        clause = re.compile(r"\s*(requires|ensures|decreases)\*?(\s+\w+)?\s*\{").match(text, at)
         if not clause:
             return found
         depth, end = 1, clause.end()
@@ -161,7 +162,7 @@ def functions(crate):
         path = str(path.relative_to(root))
         text = "\n".join(file_at(path).lines)
         owner = ""
-        for m in re.finditer(r"^impl (\w+)|^\s*((?:#\[\w+\]\s*)*)(pub )?(extern \"C\" )?fn (\w+)[^(]*\(", text, re.M):
+        for m in re.finditer(r"^impl (\w+)|^\s*((?:#\[[\w()]+\]\s*)*)(pub )?(extern \"C\" )?fn (\w+)[^(]*\(", text, re.M):
             if m.group(1):
                 owner, owner_end = m.group(1) + "::", text.find("\n}", m.end())
                 continue
@@ -171,7 +172,7 @@ def functions(crate):
             while depth:
                 depth += {"(": 1, ")": -1}.get(text[at], 0)
                 at += 1
-            result = re.compile(r"\s*->\s*[^{]*?(?=\s+(?:requires|ensures|decreases)\b|\s*\{)").match(text, at)
+            result = re.compile(r"\s*->\s*[^{]*?(?=\s+(?:requires|ensures|decreases)\b\*?|\s*\{)").match(text, at)
             at = result.end() if result else at
             yield {
                 "name": f"{crate}::{owner}{m.group(5)}",
@@ -186,12 +187,14 @@ def functions(crate):
 # ---- where a module lies
 def place(module):
     """A file of the repository, a function's contract, the toolchain or a declared type."""
-    m = re.match(r"Rattle·([a-z0-9_]+)(?:·(?:specs|proofs))?\.(specs|proofs)\.(.*)$", module)
-    if not m:
+    m = re.match(r"Rattle\.([a-z0-9_]+)\.(specs|proofs)\.(.*)$", module)
+    if not m or not (root / "crates" / m.group(1)).is_dir():
         return ("toolchain", module)
     crate, kind, rest = m.groups()
     if kind == "specs" and rest.startswith("declared."):
         return ("declared", module)
+    if kind == "specs" and rest.startswith("contracts."):
+        return ("contract", crate, rest.split(".")[-1])
     path = f"crates/{crate}/{kind}/{rest.replace('.', '/')}.antt"
     functions_of = [n for n in rest.split(".") if n[0].islower()]
     if kind == "proofs" and functions_of:
@@ -205,13 +208,15 @@ ends = {"toolchain": {}, "declared": {}}
 def cited(file, text, own):
     """What a text in a file cites: pairs of a file and a name, or a function's contract."""
     for word in words(text):
+        alias, _, name = word.partition(".")
+        if name and alias in file.modules:
+            yield from found(file.modules[alias], name)
+            continue
+        word = alias  # of a projection, `g.intervals`, the value
         if word in file.owners and file.owners[word] != own:
             yield ("definition", file.path, file.owners[word])
         elif word in file.imports:
             yield from found(*file.imports[word])
-        elif "." in word and word.split(".")[0] in file.modules:
-            alias, _, name = word.partition(".")
-            yield from found(file.modules[alias], name)
 
 
 def found(module, name):
@@ -271,8 +276,13 @@ starts = [
     for (c, _), fs in contracts.items()
     if c == crate
     for f in fs
-    if (f["c"] if crate == "estimator" else f["public"])
+    if f["public"] and (crate != "estimator" or f["fn"].startswith("kan_"))
 ]
+exported = {f["fn"]: f["text"] for (c, _), fs in contracts.items() if c == "estimator_c" for f in fs if f["c"]}
+promised = {f["fn"]: f["text"] for f in starts if f["name"].startswith("estimator::")}
+for name in sorted(set(exported) | set(promised)):
+    if exported.get(name) != promised.get(name):
+        fail(f"{name} does not have the same clauses in estimator and, for C, in estimator_c")
 if not starts or not theorems:
     fail("no contracts or no theorems were found")
 for f in starts:

@@ -5,12 +5,12 @@ use mathlib.Core.List.{List}
 use Prim.Native.Nat.{ℕ, suc, ◌+◌, ◌-◌, ◌*◌, ◌/◌, ◌%◌, ◌≤◌, ◌<◌, min}
 use native.Mathlib.Nat.{le_trans, le_of_eq, le_of_lt, mul-le-mul_left, mul-le-mul_right, suc-mul, div-add-mod', mod-lt}
 use native.Mathlib.Omega.{arith}
-use lib.Dec.{eqb, leb}
+use lib.Dec.{eqb}
 use lib.ListN.{length, take, drop, length-drop, length-take}
 use lib.Seq.{take_all}
 use lib.Ieee.{Float}
 use borrow.Author.Tests.{eq-eqb, ne_eqb, eqb-true, eqb-false, leb-true, not-true}
-use Rattle.refusals.specs.Refusals.{◌otherwise◌, ◌then◌}
+use Rattle.refusals.specs.Refusals.{◌otherwise◌}
 use Rattle.refusals.proofs.Firsts.{both_pass, test_passes, first_clear}
 use Rattle.batches.specs.Batch.{rows_in, row_at, row_fault, rows_fault, batch_fault}
 use Rattle.batches.specs.Sound.{row_fault_at, SoundBatch}

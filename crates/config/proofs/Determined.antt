@@ -1,6 +1,6 @@
 -- Each call's statement determines its answer: any two outcomes that it allows coincide. Nothing is lent here but
 -- widths to read, so the answer is all.
-use mathlib.Core.Path.{◌≡◌, sym, ◌∙◌}
+use mathlib.Core.Path.{sym, ◌∙◌}
 use Rattle.floats.proofs.Determined.{Determined}
 use Rattle.config.specs.contracts.check as check
 use Rattle.config.proofs.check.Reads as check-reads

@@ -7,7 +7,7 @@ use lib.ListN.{length}
 use lib.Ieee.{Float}
 use Rattle.floats.specs.Sums.{all_finite}
 use Rattle.floats.proofs.Sums.{plain_zero}
-use Rattle.refusals.specs.Refusals.{◌otherwise◌, ◌then◌, first_to, done_to, past, outcome_of}
+use Rattle.refusals.specs.Refusals.{◌otherwise◌, ◌then◌, past, outcome_of}
 use Rattle.refusals.proofs.Firsts.{both_pass}
 use Rattle.spline.specs.declared.Grid.{Grid}
 use Rattle.layers.specs.Net.{Net, net_of}
@@ -16,10 +16,10 @@ use Rattle.config.specs.Config.{carried_by, row_carried}
 use Rattle.admission.specs.Admission.{up_to9, up_to9_in_training, swept}
 use Rattle.passes.specs.Pass.{rows_of, rows_refusal, rows_done, from11_to18}
 use Rattle.batch_gradients.specs.Calls.{Full}
-use Rattle.forward.specs.Forward.{pass_refusal, forward_refusal, forward_part, forward_first, forward_second}
+use Rattle.forward.specs.Forward.{forward_refusal, forward_part, forward_first, forward_second}
 use Rattle.prediction.specs.Predict.{from10_to11, outputs_over, up_to11, predict_answer}
 use Rattle.loss.specs.Loss.{up_to18, loss_answer}
-use Rattle.training.specs.Train.{from11_to19, model_after, fault_at, training_of, up_to19, train_fault, train_done}
+use Rattle.training.specs.Train.{from11_to19, model_after, training_of, up_to19, train_fault, train_done}
 use Rattle.demands.specs.Silent.{Places, Differ}
 use Rattle.demands.specs.Readings.{RowReads, PredictReads, LossReads, TrainReads}
 use Rattle.demands.specs.Alike.{LeftAlike}

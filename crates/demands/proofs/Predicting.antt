@@ -6,7 +6,7 @@ use mathlib.Core.Path.{◌≡◌, refl}
 use mathlib.Core.List.{List, []}
 use lib.Ieee.{Float}
 use Rattle.floats.specs.Sums.{flat_to}
-use Rattle.refusals.specs.Refusals.{first_to, done_to, past}
+use Rattle.refusals.specs.Refusals.{first_to, past}
 use Rattle.refusals.proofs.Firsts.{first_clear, first_before}
 use Rattle.layers.specs.Net.{Net}
 use Rattle.layers.specs.Widths.{input_width}

@@ -17,7 +17,7 @@ use Rattle.batches.specs.Batch.{rows_in}
 use Rattle.refusals.specs.declared.Outcome.{Outcome}
 use Rattle.refusals.specs.Refusals.{outcome_of}
 use Rattle.refusals.proofs.Firsts.{not_refused}
-use Rattle.layers.specs.Widths.{widths_to, params_to, parameters_in, nodes_in}
+use Rattle.layers.specs.Widths.{widths_to, params_to}
 use Rattle.config.specs.Config.{unit_grid, carried_by}
 use Rattle.admission.specs.Admission.{up_to9_in_training, swept}
 use Rattle.training.specs.Train.{model_after}

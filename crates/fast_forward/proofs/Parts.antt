@@ -6,7 +6,7 @@ use native.Mathlib.Omega.{arith}
 use mathlib.Core.List.{List, [], ◌++◌, append-nil}
 use lib.ListN.{length, take, drop}
 use lib.Seq.{drop-length}
-use lib.Ieee.{Float, fits}
+use lib.Ieee.{Float}
 use borrow.Rule.Slice.PartMut.{put_mid}
 use Rattle.floats.specs.Sums.{sum_from, tabulate, at, zeros}
 use Rattle.floats.proofs.Loops.{tab_length}

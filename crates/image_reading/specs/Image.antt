@@ -1,5 +1,5 @@
 -- R13.3 to R13.6: an image's checks in their order, what it describes, and the reader. Definitions only.
-use Rattle.std.specs.Prelude.{ℕ, zero, suc, ◌+◌, ◌-◌, ◌*◌, ◌≡◌, cond, List, [], leb, eqb, length, take, Float}
+use Rattle.std.specs.Prelude.{ℕ, zero, suc, ◌-◌, ◌*◌, ◌≡◌, cond, List, [], leb, eqb, length, take, Float}
 use Rattle.floats.specs.Sums.{all_finite}
 use Rattle.refusals.specs.declared.Refusal.{Refusal}
 use Rattle.refusals.specs.Refusals.{◌otherwise◌, ◌then◌, past, none}

@@ -11,7 +11,6 @@ use lib.Ieee.Fits.{div-fits, cond-fits}
 use lib.Ieee.Bits.{of_bits-fits}
 use lib.Ieee.Scale.{finite}
 use Rattle.floats.specs.Binary32.{◌⊖◌, ◌⊗◌, ◌⊘◌, zero32, one32}
-use Rattle.floats.specs.Sums.{at}
 use Rattle.floats.specs.Zeros.{is_zero, Alike}
 use Rattle.floats.proofs.Zeros.{mul_zero_zero, add_zeros}
 use Rattle.floats.proofs.Order.{le_chain}

@@ -7,7 +7,6 @@ use native.Mathlib.Omega.{arith}
 use lib.Dec.{T}
 use lib.Ieee.{Float}
 use Rattle.floats.specs.Binary32.{zero32}
-use Rattle.floats.specs.Sums.{at}
 use Rattle.floats.specs.Zeros.{is_zero, Alike}
 use Rattle.spline.specs.declared.Grid.{Grid}
 use Rattle.local_basis.specs.declared.Four.{Four}

@@ -9,7 +9,6 @@ use lib.Ieee.{Float, binary32, sub, fits, of_bits}
 use lib.Ieee.Bits.{of_bits-fits}
 use lib.Ieee.Scale.{finite}
 use Rattle.floats.specs.Binary32.{◌⊖◌, zero32, three32}
-use Rattle.floats.specs.Sums.{at}
 use Rattle.floats.specs.Zeros.{is_zero, Alike}
 use Rattle.floats.proofs.Alike.{alike_zero, alike_subs}
 use Rattle.spline.specs.declared.Grid.{Grid}

@@ -6,7 +6,6 @@ use native.Mathlib.Omega.{arith}
 use mathlib.Core.Bool.{true, false}
 use lib.Dec.{T}
 use lib.Ieee.{Float}
-use Rattle.floats.specs.Sums.{at}
 use Rattle.floats.specs.Zeros.{is_zero, Alike}
 use Rattle.spline.specs.declared.Grid.{Grid}
 use Rattle.spline.specs.Spline.{cox_of, outside_of, value_of}

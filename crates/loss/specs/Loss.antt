@@ -1,5 +1,5 @@
 -- R9.1 to R9.3: `mse_loss`, row by row. Definitions only.
-use Rattle.std.specs.Prelude.{ℕ, zero, suc, ◌+◌, ◌*◌, ◌≡◌, List, length, Float}
+use Rattle.std.specs.Prelude.{ℕ, zero, suc, ◌*◌, ◌≡◌, List, length, Float}
 use Rattle.std.specs.Float.Ieee.Scale.{finite}
 use Rattle.floats.specs.Binary32.{◌⊖◌, ◌⊗◌, ◌⊘◌, zero32, whole32}
 use Rattle.floats.specs.Sums.{at, sum_from}
@@ -7,7 +7,7 @@ use Rattle.refusals.specs.declared.Refusal.{Refusal}
 use Rattle.refusals.specs.Refusals.{◌otherwise◌, ◌then◌, first_to, none}
 use Rattle.spline.specs.declared.Grid.{Grid}
 use Rattle.layers.specs.Net.{Net}
-use Rattle.layers.specs.Widths.{input_width, output_width, widest_in}
+use Rattle.layers.specs.Widths.{output_width, widest_in}
 use Rattle.batches.specs.Batch.{row_at}
 use Rattle.passes.specs.Pass.{rows_of, finite_row, outputs_at, from11_to18}
 use Rattle.config.specs.Config.{carried_by, parameters_for}

@@ -11,7 +11,7 @@ use lib.Seq.{take_at}
 use Rattle.layers.specs.Widths.{width_at}
 use Rattle.spline.specs.declared.Grid.{Grid}
 use Rattle.layers.specs.Net.{Net}
-use Rattle.refusals.specs.Refusals.{◌otherwise◌, ◌then◌}
+use Rattle.refusals.specs.Refusals.{◌otherwise◌}
 use Rattle.refusals.proofs.Firsts.{then_first, test_passes}
 use Rattle.batches.specs.Batch.{row_fault}
 use Rattle.batches.proofs.Rows.{wide_row}

@@ -1,6 +1,6 @@
 -- R8.8: two work slices, which the layers write in turn, the first layer the first. What the steps of a row's pass
 -- promise and ask. Definitions only.
-use Rattle.std.specs.Prelude.{ℕ, ◌+◌, ◌-◌, ◌*◌, ◌%◌, ◌≤◌, ◌<◌, ◌≡◌, Bool, true, false, cond, List, ◌++◌, eqb, length, take, drop, Float}
+use Rattle.std.specs.Prelude.{ℕ, ◌+◌, ◌-◌, ◌%◌, ◌≤◌, ◌<◌, ◌≡◌, Bool, true, cond, List, ◌++◌, eqb, length, take, drop, Float}
 use Rattle.floats.specs.Sums.{all_finite}
 use Rattle.spline.specs.declared.Grid.{Grid}
 use Rattle.layers.specs.Basis.{Basis}

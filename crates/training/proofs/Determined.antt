@@ -1,6 +1,6 @@
 -- Each call's statement determines its answer and the final contents of all memory lent to it (R3.6): any two outcomes
 -- that it allows coincide, in the answer, the model, the gradients and the work.
-use mathlib.Core.Path.{◌≡◌, sym, ◌∙◌}
+use mathlib.Core.Path.{sym, ◌∙◌}
 use Rattle.floats.proofs.Determined.{Determined}
 use Rattle.training.specs.contracts.calls.train as train
 use Rattle.training.proofs.calls.train.Reads as train-reads

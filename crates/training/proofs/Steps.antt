@@ -1,8 +1,7 @@
 -- Steps one after the other: where training stands before step k, a step more, a stop, and the end. Assumes nothing.
 use mathlib.Core.Path.{◌≡◌, refl, sym, ap, ◌∙◌}
-use mathlib.Core.Bool.{true}
 use mathlib.Core.List.{List}
-use Prim.Native.Nat.{ℕ, zero, suc, ◌+◌, ◌*◌, ◌≤◌, ◌<◌}
+use Prim.Native.Nat.{ℕ, zero, suc, ◌+◌, ◌<◌}
 use native.Mathlib.Numerals.{add-one}
 use native.Mathlib.Omega.{arith}
 use lib.ListN.{length, drop}
@@ -12,12 +11,11 @@ use Rattle.floats.proofs.Loops.{all_each}
 use Rattle.spline.specs.declared.Grid.{Grid}
 use Rattle.local_basis.specs.Fours.{Finite}
 use Rattle.layers.specs.Net.{Net}
-use Rattle.refusals.specs.Refusals.{◌otherwise◌, ◌then◌, first_to, done_to, past}
+use Rattle.refusals.specs.Refusals.{◌otherwise◌, first_to, past}
 use Rattle.refusals.proofs.Firsts.{both_pass, test_passes, first_none, first_more, first_stop, done_all, done_stop}
 use Rattle.passes.specs.Pass.{rows_of, finite_row}
 use Rattle.training_step.specs.Step.{step_fault, stepped}
 use Rattle.training_step.specs.Stages.{StepReady, Rests, StepDone}
-use Rattle.training.specs.declared.calls.Training.{Training}
 use Rattle.training.specs.declared.calls.Training.TheVariants.{All, Stopped}
 use Rattle.training.specs.Train.{model_after, fault_at, training_of}
 use Rattle.training.specs.Stages.{StepsDone}

@@ -1,5 +1,5 @@
 -- R12.1 to R12.4: the visit map, one byte for each parameter. Definitions only.
-use Rattle.std.specs.Prelude.{ℕ, zero, suc, ◌+◌, ◌≡◌, Bool, true, false, ◌||◌, List, eqb, length, get_or, Float}
+use Rattle.std.specs.Prelude.{ℕ, zero, suc, ◌≡◌, Bool, true, false, ◌||◌, List, eqb, length, get_or, Float}
 use Rattle.floats.specs.Sums.{tabulate, all_finite}
 use Rattle.refusals.specs.declared.Outcome.{Outcome}
 use Rattle.refusals.specs.Refusals.{◌otherwise◌, ◌then◌, past, outcome_of}

@@ -1,6 +1,6 @@
 -- A word that was written is read again, and words that were read, written again, are the bytes they were.
 -- Assumes nothing.
-use Prim.Native.Nat.{ℕ, zero, suc, ◌+◌, ◌-◌, ◌*◌, ◌/◌, ◌%◌, ◌^◌, ◌≤◌, ◌<◌}
+use Prim.Native.Nat.{ℕ, zero, suc, ◌+◌, ◌*◌, ◌/◌, ◌%◌, ◌^◌, ◌≤◌, ◌<◌}
 use native.Mathlib.Nat.{div-div-eq-div-mul, div-add-mod', mod-eq_of_lt}
 use native.Mathlib.Nat.{add-zero, add_assoc, suc-mul, eq-or-lt_of_le, le_of_suc-le-suc, lt-suc_self}
 use native.Mathlib.Numerals.{add-one}

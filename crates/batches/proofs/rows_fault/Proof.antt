@@ -4,8 +4,7 @@ use mathlib.Core.Path.{◌≡◌, sym, ap, ◌∙◌}
 use Prim.Native.Nat.{ℕ, ◌≤◌, ◌-◌}
 use native.Mathlib.Nat.{le_of_lt}
 use native.Mathlib.Omega.{arith}
-use lib.ListN.{length}
-use Rattle.batches.specs.Batch.{rows_in, row_fault, rows_fault}
+use Rattle.batches.specs.Batch.{row_fault, rows_fault}
 use Rattle.batches.specs.Sound.{row_fault_at}
 use Rattle.refusals.specs.Refusals.{first_to}
 use Rattle.refusals.proofs.Firsts.{first_none, first_more, first_stop}

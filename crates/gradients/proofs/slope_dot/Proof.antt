@@ -3,7 +3,7 @@ use mathlib.Core.Path.{◌≡◌, ap, ◌∙◌}
 use Prim.Native.Nat.{ℕ, ◌≤◌, ◌-◌}
 use native.Mathlib.Omega.{arith}
 use Rattle.floats.specs.Binary32.{◌⊗◌}
-use Rattle.floats.specs.Sums.{sum_to, sum_from, at}
+use Rattle.floats.specs.Sums.{sum_to, at}
 use Rattle.floats.proofs.Loops.{sum_none, sum_more}
 use Rattle.layers.specs.Net.{basis_of}
 use Rattle.layers.specs.Layer.{dot_of}

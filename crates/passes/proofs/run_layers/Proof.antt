@@ -1,5 +1,4 @@
 -- `passes::run_layers` meets its contract: at each layer the holder has the values of the layers before. Assumes nothing.
-use borrow.Author.Rules.{rules}
 use mathlib.Core.Path.{refl}
 use Prim.Native.Nat.{◌-◌}
 use native.Mathlib.Omega.{arith}

@@ -1,17 +1,15 @@
 -- `passes::turn` meets its contract, whichever way the layer goes. Assumes nothing.
-use mathlib.Core.Path.{◌≡◌, ap, ◌∙◌}
-use mathlib.Core.List.{List, ◌++◌}
-use Prim.Native.Nat.{ℕ, ◌-◌, ◌*◌, ◌%◌, ◌≤◌}
-use native.Mathlib.Omega.{arith}
+use mathlib.Core.Path.{ap, ◌∙◌}
+use mathlib.Core.List.{List}
+use Prim.Native.Nat.{ℕ, ◌-◌, ◌≤◌}
 use lib.ListN.{length, take, drop}
 use borrow.Author.Tests.{eq-eqb, ne_eqb}
 use lib.Ieee.{Float}
 use Rattle.floats.specs.Sums.{all_finite}
-use Rattle.floats.proofs.Loops.{front, front_length}
+use Rattle.floats.proofs.Loops.{front_length}
 use Rattle.spline.specs.declared.Grid.{Grid}
 use Rattle.fast_forward.specs.Inputs.{Parameters}
 use Rattle.layers.specs.Net.{basis_of}
-use Rattle.layers.specs.Layer.{layer_of}
 use Rattle.passes.proofs.Passes.{front_in, fronted}
 use borrow.Author.Rules.{rules}
 use Rattle.passes.proofs.turn.Statement.{statement}

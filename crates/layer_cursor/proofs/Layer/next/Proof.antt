@@ -1,6 +1,6 @@
 -- `layer_cursor::Layer::next` meets its contract. Assumes nothing.
 use borrow.Author.Rules.{rules}
-use mathlib.Core.Path.{refl, ◌∙◌}
+use mathlib.Core.Path.{refl}
 use native.Mathlib.Omega.{arith}
 use Rattle.layer_cursor.proofs.Cursors.{Small, small, step, step_nodes}
 use Rattle.layer_cursor.proofs.Layer.next.Statement.{statement}

@@ -2,7 +2,6 @@
 use borrow.Author.Rules.{rules}
 use mathlib.Core.Path.{refl}
 use native.Mathlib.Omega.{arith}
-use Prim.Native.Nat.{◌+◌}
 use Rattle.layer_cursor.proofs.Cursors.{Back, back}
 use Rattle.layer_cursor.proofs.Layer.previous.Statement.{statement}
 use Rattle.layer_cursor.proofs.Layer.previous.Tie as tie

@@ -7,7 +7,6 @@ use lib.Ieee.{le}
 use borrow.Author.Rules.{rules}
 use Rattle.floats.specs.Sums.{at}
 use Rattle.spline.specs.Spline.{knot_of}
-use Rattle.local_basis.proofs.Knots.{from, to}
 use Rattle.local_basis.proofs.Meshes.{calm_grid}
 use Rattle.local_basis.proofs.Found.{step_up}
 use Rattle.local_basis.proofs.search.up.Statement.{statement}

@@ -1,9 +1,9 @@
 -- `row_gradients::back_layers` meets its contract: at the loop's head the gradients stand in the work from the cursor's
 -- nodes on. Assumes nothing.
-use mathlib.Core.Path.{◌≡◌, ◌∙◌}
+use mathlib.Core.Path.{◌∙◌}
 use Prim.Native.Nat.{◌+◌, ◌-◌}
 use native.Mathlib.Omega.{arith}
-use lib.ListN.{length, take}
+use lib.ListN.{take}
 use Rattle.layers.specs.Widths.{input_width}
 use Rattle.row_gradients.proofs.Spans.{refit, mesh_is, within}
 use Rattle.row_gradients.proofs.Ups.{Led, here, one_less, Outset, half, outputs_last, set_out, ended}

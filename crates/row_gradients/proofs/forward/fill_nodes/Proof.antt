@@ -1,6 +1,5 @@
 -- `row_gradients::fill_nodes` meets its contract: at each layer the values up to its inputs stand in the work.
 -- Assumes nothing.
-use borrow.Author.Rules.{rules}
 use borrow.Author.Tests.{not-true, not-false}
 use mathlib.Core.Path.{sym, ◌∙◌}
 use Prim.Native.Nat.{◌-◌}

@@ -1,5 +1,4 @@
 -- `training::training_fault` meets its contract: the batch, and then the rate. Assumes nothing.
-use mathlib.Core.Path.{◌≡◌, sym, ◌∙◌}
 use Rattle.refusals.proofs.Firsts.{then_first}
 use borrow.Author.Rules.{rules}
 use borrow.Author.Tests.{not-true, not-false}

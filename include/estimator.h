@@ -79,22 +79,22 @@
  * Stack: any call, on any configuration and any numbers, takes at most
  * ESTIMATOR_STACK_BYTES, arguments and return addresses included. No function
  * calls itself. In bytes, summed along the calls inside the archive:
- *   kan_train          2,856
- *   kan_train_step     2,840
- *   kan_accumulate     2,632
- *   kan_visits         1,984
- *   kan_loss           1,960
- *   kan_predict        1,944
- *   kan_npy_read         488
- *   kan_initialise       392
- *   kan_npy_write        392
- *   kan_image_unpack     376
- *   kan_image_write      360
- *   kan_image_read       344
- *   kan_apply            328
- *   kan_check            264
- * So on a fibre of 4 KiB training leaves its caller 1,240 bytes, prediction
- * 2,152. The first call needs no more than later ones: memset and memcpy, all
+ *   kan_train          2,984
+ *   kan_train_step     2,968
+ *   kan_accumulate     2,760
+ *   kan_loss           2,040
+ *   kan_predict        2,024
+ *   kan_visits         1,960
+ *   kan_npy_read         512
+ *   kan_initialise       416
+ *   kan_npy_write        416
+ *   kan_image_unpack     384
+ *   kan_image_write      384
+ *   kan_image_read       368
+ *   kan_apply            352
+ *   kan_check            288
+ * So on a fibre of 4 KiB training leaves its caller 1,112 bytes, prediction
+ * 2,072. The first call needs no more than later ones: memset and memcpy, all
  * that the archive needs of the C library, are bound when the program is
  * loaded. The functions of estimator.hpp added up to 208 bytes of their own with
  * g++ 12 and clang 14 at -O2, and up to 480 without optimisation.

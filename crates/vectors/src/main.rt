@@ -6,6 +6,9 @@
 mod cases;
 
 use replay::Line;
+use std::fs::File;
+use std::io;
+use std::rt::Files;
 
 // More than any list has.
 const MOST_BYTES: usize = 1_048_576;
@@ -34,17 +37,16 @@ fn run_line(line: &[u8]) -> Outcome {
     }
 }
 
-fn run_list(name: &[u8], file: i32) {
+fn run_list(rt: &impl Print, name: &[u8], file: &File) -> io::Result<()> {
     let mut agree = [0u64; 256];
     let mut differ = [0u64; 256];
     let mut chunk = [0u8; 4096];
     let mut number = 0;
     let mut at = 0;
     while at < MOST_BYTES {
-        let found = case_lists::line_at(file, at, &mut chunk);
+        let found = case_lists::line_at(file, at, &mut chunk)?;
         if !found.some {
-            case_lists::tallies(name, &agree, &differ);
-            return;
+            return case_lists::tallies(rt, name, &agree, &differ);
         }
         let length = found.length;
         number += 1;
@@ -52,28 +54,26 @@ fn run_list(name: &[u8], file: i32) {
             Outcome::Agrees(tag) => case_lists::count(&mut agree, tag),
             Outcome::Differs(tag) => {
                 case_lists::count(&mut differ, tag);
-                case_lists::differs(name, number);
+                case_lists::differs(rt, name, number)?;
             }
             Outcome::Skipped => {}
-            Outcome::Malformed => case_lists::malformed(name, number),
+            Outcome::Malformed => case_lists::malformed(rt, name, number)?,
         }
         at += length + 1;
     }
-    case_lists::unread(name, b"too long");
+    case_lists::unread(rt, name, b"too long")
 }
 
-fn run_file(name: &[u8], path: &[u8]) {
-    let file = os::open_read(path);
-    if file < 0 {
-        case_lists::unread(name, b"missing");
-        return;
+// A list that cannot be opened is missing.
+fn run_file(rt: &(impl Files<File = File> + Print), name: &[u8], path: &str) -> io::Result<()> {
+    match File::open(rt, path) {
+        Ok(file) => run_list(rt, name, &file),
+        Err(_) => case_lists::unread(rt, name, b"missing"),
     }
-    run_list(name, file);
-    libc::close(file);
 }
 
-fn main() {
-    run_file(b"settled", b"settled.txt");
-    run_file(b"oracle", b"oracle.txt");
-    run_file(b"calls", b"calls.txt");
+fn main(rt: HostRuntime) -> io::Result<()> {
+    run_file(&rt, b"settled", "settled.txt")?;
+    run_file(&rt, b"oracle", "oracle.txt")?;
+    run_file(&rt, b"calls", "calls.txt")
 }

@@ -15,6 +15,8 @@ use spline::Grid;
 
 // Every layer's part, from the values and gradients at its nodes; `end` is the place past the last layer.
 // `clean` says that no gradient is -0.0. Then none becomes it: a sum is -0.0 only where both its terms are.
+// Kept apart from its caller, as the walk back is.
+#[inline(never)]
 pub fn add_layers(
     grid: Grid,
     table: &[u32; 256],

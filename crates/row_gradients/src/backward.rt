@@ -30,6 +30,8 @@ fn output_gradients(work: &mut [f32], from: usize, to: usize, targets: &[f32], s
 }
 
 // All layers but the first, whose inputs' gradients nothing reads; `end` is the place past the last layer.
+// Kept apart from its caller, whose frame stays small while a row runs forward, the deepest part of a call.
+#[inline(never)]
 pub fn back_layers(
     grid: Grid,
     table: &[u32; 256],

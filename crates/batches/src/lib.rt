@@ -27,6 +27,7 @@ pub fn row(xs: &[f32], w: usize, r: usize) -> &[f32]
 }
 
 // A row's own fault: its width first, then its numbers.
+#[tactic(auto, unfolding(crate::specs::Batch::row_fault))]
 pub fn row_fault(xs: &[f32], width: usize, narrow: u32, wild: u32) -> u32
     requires { 0 < narrow }
     ensures { result ≡ row_fault width narrow wild xs.now }

@@ -6,3 +6,4 @@ pub mod Totals
 pub mod Folded
 pub mod Sized
 pub mod Determined
+pub mod UnitDomain

@@ -262,6 +262,7 @@ impl Shape {
 
     // The first refusal once all `count` widths are taken, or 0. The given domain comes last, after all that is asked
     // with [-1, 1].
+    #[tactic(auto, using(crate::proofs::UnitDomain::unit_domain), unfolding(crate::specs::Fold::shape_fault))]
     fn fault(self, count: usize, grid: Grid) -> u32
         ensures { result ≡ shape_fault self count grid }
     {

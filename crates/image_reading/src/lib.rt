@@ -36,6 +36,7 @@ fn refused(number: u32, carried: usize) -> Described
 }
 
 // 25, 26, and 27 for the widths' distance, of the trailer of an image of so many bytes; or 0.
+#[tactic(auto, unfolding(crate::specs::Image::trailer_fault))]
 fn trailer_fault(trailer: Trailer, bytes: usize) -> u32
     requires { trailer.count < 2 ^ 32 }
     ensures { result ≡ trailer_fault trailer bytes }

@@ -81,6 +81,7 @@ fn predict_rows(
 }
 
 // Past check 9: 10, 11, and then the rows.
+#[tactic(auto, using(crate::proofs::Calls::outputs_room, passes::proofs::EachRow::wide_rows))]
 fn predict_sound(
     grid: Grid,
     widths: &[usize],

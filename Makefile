@@ -22,7 +22,7 @@ help:
 	@echo 'make test-numpy     exchange NPY files with the installed NumPy'
 	@echo 'make robustness     sanitizers, valgrind, fuzzers (FUZZ_SECONDS=60 each)'
 	@echo 'make bench          times, instructions and stack beside the Rust'
-	@echo 'make clean          remove target/, stored proofs included'
+	@echo 'make clean          remove target/, and the stored proofs, crates/*/out'
 	@echo
 	@echo 'ESTIMATOR_LIB=FOLDER  take FOLDER/libestimator.a instead of proving and building one'
 	@echo 'KAN_RUST=FOLDER       the Rust that test and bench compare with (oracle/README.md)'
@@ -63,4 +63,4 @@ robustness: archive
 	robustness/run.sh
 
 clean:
-	rm -rf target
+	rm -rf target crates/*/out

@@ -79,9 +79,9 @@
  * Stack: any call, on any configuration and any numbers, takes at most
  * ESTIMATOR_STACK_BYTES, arguments and return addresses included. No function
  * calls itself. In bytes, summed along the calls inside the archive:
- *   kan_train          2,984
- *   kan_train_step     2,968
- *   kan_accumulate     2,760
+ *   kan_train          2,776
+ *   kan_train_step     2,760
+ *   kan_accumulate     2,552
  *   kan_loss           2,040
  *   kan_predict        2,024
  *   kan_visits         1,960
@@ -93,7 +93,7 @@
  *   kan_image_read       368
  *   kan_apply            352
  *   kan_check            288
- * So on a fibre of 4 KiB training leaves its caller 1,112 bytes, prediction
+ * So on a fibre of 4 KiB training leaves its caller 1,320 bytes, prediction
  * 2,072. The first call needs no more than later ones: memset and memcpy, all
  * that the archive needs of the C library, are bound when the program is
  * loaded. The functions of estimator.hpp added up to 208 bytes of their own with

@@ -1,4 +1,4 @@
-// The C linkage as an archive: each C function is the function of `estimator` by the same name, with the same promise.
+// Public crate: the C linkage as an archive. Each C function is the function of `estimator` by the same name, with the same promise.
 #![tactic(auto)]
 
 ghost use Rattle.std.specs.Prelude.{◌≡◌};

@@ -79,22 +79,22 @@
  * Stack: any call, on any configuration and any numbers, takes at most
  * ESTIMATOR_STACK_BYTES, arguments and return addresses included. No function
  * calls itself. In bytes, summed along the calls inside the archive:
- *   kan_train          2,776
- *   kan_train_step     2,760
- *   kan_accumulate     2,552
- *   kan_loss           2,040
- *   kan_predict        2,024
- *   kan_visits         1,960
- *   kan_npy_read         512
- *   kan_initialise       416
- *   kan_npy_write        416
- *   kan_image_unpack     384
- *   kan_image_write      384
+ *   kan_train          2,816
+ *   kan_train_step     2,800
+ *   kan_accumulate     2,672
+ *   kan_loss           2,160
+ *   kan_predict        2,176
+ *   kan_visits         2,000
+ *   kan_npy_read         496
+ *   kan_initialise       432
+ *   kan_npy_write        432
+ *   kan_image_unpack     416
+ *   kan_image_write      416
  *   kan_image_read       368
- *   kan_apply            352
- *   kan_check            288
- * So on a fibre of 4 KiB training leaves its caller 1,320 bytes, prediction
- * 2,072. The first call needs no more than later ones: memset and memcpy, all
+ *   kan_apply            368
+ *   kan_check            304
+ * So on a fibre of 4 KiB training leaves its caller 1,280 bytes, prediction
+ * 1,920. The first call needs no more than later ones: memset and memcpy, all
  * that the archive needs of the C library, are bound when the program is
  * loaded. The functions of estimator.hpp added up to 208 bytes of their own with
  * g++ 12 and clang 14 at -O2, and up to 480 without optimisation.

@@ -1,4 +1,5 @@
 -- A batch row by row: what holds after some of its rows, and after one more. Assumes nothing.
+use Rattle.std.specs.Prelude.{Ok, Err}
 use mathlib.Core.Path.{◌≡◌, refl, sym, ap, ◌∙◌}
 use mathlib.Core.Bool.{Bool, true, false, false≢true, cond}
 use mathlib.Core.List.{List}
@@ -9,6 +10,9 @@ use lib.ListN.{length, drop}
 use lib.Ieee.{Float}
 use Rattle.floats.specs.Sums.{all_to}
 use Rattle.floats.proofs.Loops.{all_none, all_more, all_stop, all_each}
+use Rattle.refusals.specs.declared.Refusal.{Refusal}
+use Rattle.refusals.specs.Refusals.{Outcome}
+use Rattle.refusals.proofs.Firsts.{test_passes, not_refused}
 use Rattle.spline.specs.declared.Grid.{Grid}
 use Rattle.layers.specs.Net.{Net, net_of}
 use Rattle.layers.specs.Widths.{input_width, output_width}
@@ -21,6 +25,7 @@ use Rattle.gradients.specs.Steps.{plus_of}
 use Rattle.row_gradients.specs.Backward.{row_gradient}
 use Rattle.row_gradients.specs.Calls.{two_n, WorkFits, RowTaken}
 use Rattle.row_gradients.proofs.Spans.{refit}
+use Rattle.row_gradients.proofs.Tests.{test_fails, never_ok}
 use Rattle.row_gradients.proofs.Rows.{row_length, row_clean}
 use Rattle.batch_gradients.specs.Accumulate.{gathered}
 use Rattle.batch_gradients.specs.Calls.{FullRows, RowsTaken}
@@ -39,7 +44,7 @@ row_starts n w r count some e h = le_of_lt (row_begins n w r some (rw e at h))
 
 -- a row and its targets by other names
 pub same_row : {N : Net} {ps : List Float} {ws : List ℕ} {xs xs' ts ts' : List Float} {scale : Float} {add : Bool}
-    {gs W gs' W' : List Float} {b : Bool} → xs ≡ xs' → ts ≡ ts' → RowTaken N ps ws xs ts scale add gs W gs' W' b
+    {gs W gs' W' : List Float} {b : Outcome} → xs ≡ xs' → ts ≡ ts' → RowTaken N ps ws xs ts scale add gs W gs' W' b
     → RowTaken N ps ws xs' ts' scale add gs W gs' W' b
 same_row e f y = rw (← e, ← f) y
 
@@ -79,10 +84,11 @@ module _ {N : Net} {ps : List Float} {ws : List ℕ} {xs ts : List Float} {scale
   kept_first (suc r) t e = absurd (false≢true (sym e ∙ all_each _ (suc r) t.passed 0 (omega arith)))
 
   pub all_taken : {r : ℕ} {gs W : List Float} → r ≡ rows_of ws xs → Taken N ps ws xs ts scale add known gs₀ W₀ r gs W
-      → RowsTaken N ps ws xs ts scale add gs₀ W₀ gs W true
+      → RowsTaken N ps ws xs ts scale add gs₀ W₀ gs W (Ok tt)
   all_taken {r} e t =
+      let all : all_to (finite_row N ps ws xs) (rows_of ws xs) ≡ true = rw e at t.passed in
       record {
-        passed = sym t.passed ∙ ap (all_to _) e;
+        answer = rw all;
         added = λ _ a. t.sum a ∙ ap (gathered N ps ws xs ts (output_width ws) scale gs₀) e;
         untold = t.same;
         kept = kept_first r t;
@@ -98,6 +104,14 @@ pub record TakingRow (g : Grid) (ps : List Float) (ws : List ℕ) (xs ts : List 
   pub more : r < rows_of ws xs
   pub taken : Taken (net_of g) ps ws xs ts scale add known gs₀ W₀ r gs W
 
+pub taking : {g : Grid} {ps : List Float} {ws : List ℕ} {xs ts : List Float} {scale : Float} {add known : Bool}
+    {gs₀ W₀ : List Float} {r count : ℕ} {gs W : List Float} → WorkFits g ps ws W₀ → FullRows ws xs ts
+    → length gs₀ ≡ length ps → count ≡ rows_of ws xs → r < count
+    → Taken (net_of g) ps ws xs ts scale add known gs₀ W₀ r gs W
+    → TakingRow g ps ws xs ts scale add known gs₀ W₀ r gs W
+taking f full same count more t =
+    record { fits = f; full = full; same = same; more = rw count at more; taken = t }
+
 module _ {g : Grid} {ps : List Float} {ws : List ℕ} {xs ts : List Float} {scale : Float} {add known : Bool}
     {gs₀ W₀ : List Float} {r : ℕ} {gs W : List Float} (t : TakingRow g ps ws xs ts scale add known gs₀ W₀ r gs W) where
   -- what the row asks
@@ -111,14 +125,17 @@ module _ {g : Grid} {ps : List Float} {ws : List ℕ} {xs ts : List Float} {scal
   still_clean e = rw t.taken.size_g (t.taken.clean e)
 
   -- and what it leaves, where it answers b
-  module _ {gs' W' : List Float} {b : Bool} (size_g : length gs' ≡ length gs) (size_w : length W' ≡ length W)
+  module _ {gs' W' : List Float} {b : Outcome} (size_g : length gs' ≡ length gs) (size_w : length W' ≡ length W)
       (y : RowTaken (net_of g) ps ws (row_at xs (input_width ws) r) (row_at ts (output_width ws) r) scale add gs W gs' W' b) where
     abbrev adds : List Float
     adds = row_gradient (net_of g) ps ws (row_at xs (input_width ws) r) (row_at ts (output_width ws) r) scale
 
-    pub one_row : b ≡ true → Taken (net_of g) ps ws xs ts scale add known gs₀ W₀ (r + 1) gs' W'
+    passes_20 : b ≡ Ok tt → finite_row (net_of g) ps ws xs r ≡ true
+    passes_20 e = test_passes _ 19 (not_refused _ 0 (sym y.answer ∙ e))
+
+    pub one_row : b ≡ Ok tt → Taken (net_of g) ps ws xs ts scale add known gs₀ W₀ (r + 1) gs' W'
     one_row e = record {
-      passed = all_more _ r t.taken.passed (sym y.finite ∙ e);
+      passed = all_more _ r t.taken.passed (passes_20 e);
       sum = λ a. gathered_more _ _ _ _ _ _ _ _ r _ _ (t.taken.sum a) long (moved true a);
       same = λ a. moved false a ∙ t.taken.same a;
       clean = λ k. cleanly k add refl;
@@ -131,18 +148,19 @@ module _ {g : Grid} {ps : List Float} {ws : List ℕ} {xs ts : List Float} {scal
         long = row_length (net_of g) ps ws _ _ scale (t.full.inputs r t.more) ∙ t.fits.params ∙ sym t.same
 
         moved : (c : Bool) → add ≡ c → gs' ≡ cond c (plus_of gs adds) gs
-        moved c z = rw (e, z) at y.gradients
+        moved c z = rw (passes_20 e, z) at y.gradients
 
         cleanly : known ≡ true → (c : Bool) → add ≡ c → Clean (length gs₀) gs'
         cleanly k true z = row_clean _ _ _ _ _ _ _ _ _ (moved true z) (t.taken.clean k)
         cleanly k false z = rw (moved false z) (t.taken.clean k)
 
-    pub stopped : b ≡ false → RowsTaken (net_of g) ps ws xs ts scale add gs₀ W₀ gs' W' false
-    stopped e =
-        let unmoved : gs' ≡ gs = rw e at y.gradients in
+    pub stopped : {e : Refusal} → b ≡ Err e → RowsTaken (net_of g) ps ws xs ts scale add gs₀ W₀ gs' W' (Err e)
+    stopped {e} p =
+        let wrong = test_fails _ 20 0 e (sym y.answer ∙ p) in
+        let unmoved : gs' ≡ gs = rw wrong at y.gradients in
         record {
-          passed = sym (all_stop _ r (rows_of ws xs) t.more (sym y.finite ∙ e));
-          added = λ q. absurd (false≢true q);
+          answer = rw (all_stop (finite_row (net_of g) ps ws xs) r (rows_of ws xs) t.more wrong) (rw wrong at (sym p ∙ y.answer));
+          added = λ q. never_ok q;
           untold = λ a. unmoved ∙ t.taken.same a;
           kept = λ z. unmoved ∙ kept_first r t.taken z;
           rest = y.rest ∙ t.taken.rest;

@@ -2,14 +2,15 @@
 use mathlib.Core.Path.{◌≡◌, refl, sym, ap, ◌∙◌}
 use mathlib.Core.Bool.{Bool, true, false, cond, not}
 use mathlib.Core.List.{List}
-use Prim.Native.Nat.{ℕ, suc, ◌+◌, ◌-◌, ◌*◌, ◌/◌, ◌%◌, ◌≤◌, ◌<◌, min}
-use native.Mathlib.Nat.{le_trans, le_of_eq, le_of_lt, mul-le-mul_left, mul-le-mul_right, suc-mul, div-add-mod', mod-lt}
+use Prim.Native.Nat.{ℕ, zero, suc, ◌+◌, ◌-◌, ◌*◌, ◌/◌, ◌%◌, ◌≤◌, ◌<◌, min}
+use native.Mathlib.Nat.{le_trans, le_of_eq, le_of_lt, mul-le-mul_right, suc-mul, div-add-mod', mod-lt}
 use native.Mathlib.Omega.{arith}
 use lib.Dec.{eqb}
 use lib.ListN.{length, take, drop, length-drop, length-take}
 use lib.Seq.{take_all}
 use lib.Ieee.{Float}
 use borrow.Author.Tests.{eq-eqb, ne_eqb, eqb-true, eqb-false, leb-true, not-true}
+use Rattle.std.specs.Int.{div_ceil}
 use Rattle.refusals.specs.Refusals.{◌otherwise◌}
 use Rattle.refusals.proofs.Firsts.{both_pass, test_passes, first_clear}
 use Rattle.batches.specs.Batch.{rows_in, row_at, row_fault, rows_fault, batch_fault}
@@ -20,14 +21,13 @@ pub rows_whole : (n w : ℕ) → n % w ≡ 0 → n / w ≡ rows_in n w
 unfolding rows_in
 rows_whole n w e = sym (rw (eq-eqb (n % w) 0 e) (omega arith))
 
-pub rows_short : (n w : ℕ) → (n % w ≡ 0 → ⊥) → n / w + 1 ≡ rows_in n w
+pub rows_rounded_up : (n w : ℕ) → div_ceil n w ≡ rows_in n w
 unfolding rows_in
-rows_short n w e = sym (rw (ne_eqb (n % w) 0 e))
-
-pub quotient_below : (n w : ℕ) → 0 < w → (n % w ≡ 0 → ⊥) → n / w + 1 ≤ n
-quotient_below n w W e =
-    let a : n / w * 1 ≤ n / w * w = mul-le-mul_left (n / w) W in
-    omega (arith, a, div-add-mod' n w)
+rows_rounded_up n w = by (n % w)
+  where
+    by : (m : ℕ) → n / w + min 1 m ≡ n / w + cond (eqb m 0) 0 1
+    by zero = refl
+    by (suc m) = rw (ne_eqb (suc m) 0 (λ e. omega (arith, e))) (omega arith)
 
 -- row r begins within the batch
 pub row_begins : (n w r : ℕ) → 0 < w → r < rows_in n w → r * w < n
@@ -49,14 +49,6 @@ row_begins n w r W h = go (eqb (n % w) 0) refl
     go false e = short (eqb-false (n % w) 0 e) (rw e at h)
 
 -- ---- a row as a part
-pub row_short : (xs : List Float) (a w : ℕ) → length xs - a < w → take (length xs - a) (drop a xs) ≡ take w (drop a xs)
-row_short xs a w h =
-    take_all (length xs - a) (drop a xs) (le_of_eq (length-drop a xs))
-    ∙ sym (take_all w (drop a xs) (le_trans (le_of_eq (length-drop a xs)) (le_of_lt h)))
-
-pub row_full : (xs : List Float) (a w : ℕ) → take (a + w - a) (drop a xs) ≡ take w (drop a xs)
-row_full xs a w = let e : a + w - a ≡ w = omega arith in ap (λ (n : ℕ). take n (drop a xs)) e
-
 -- ---- a batch with no fault
 -- a row that is as wide as it must be
 pub wide_row : (w a b : ℕ) (xs : List Float) → row_fault w (suc a) b xs ≡ 0 → length xs ≡ w

@@ -2,14 +2,18 @@
 #![tactic(auto)]
 
 ghost use Rattle.std.specs.Prelude.{◌≡◌, ◌*◌, ◌≤◌, ◌<◌, length};
+ghost use Rattle.refusals.specs.Refusals.{outcome_of};
 ghost use Rattle.batches.specs.Batch.{rows_in, row_at, row_fault, rows_fault, batch_fault};
 
+use refusals::{Refusal, refuse_unless};
+
 // How many rows of width w stand in n numbers, a short last one counted.
+#[tactic(auto, using(crate::proofs::Rows::rows_rounded_up))]
 pub fn rows_in(n: usize, w: usize) -> usize
     requires { 0 < w }
     ensures { result ≡ rows_in n w }
 {
-    if n % w == 0 { n / w } else { n / w + 1 }
+    n.div_ceil(w)
 }
 
 // Row r, short where the batch ends within it.
@@ -26,56 +30,37 @@ pub fn row(xs: &[f32], w: usize, r: usize) -> &[f32]
     &xs[at..end]
 }
 
-// A row's own fault: its width first, then its numbers.
+// A row's own checks: its width first, then its numbers.
 #[tactic(auto, unfolding(crate::specs::Batch::row_fault))]
-pub fn row_fault(xs: &[f32], width: usize, narrow: u32, wild: u32) -> u32
-    requires { 0 < narrow }
-    ensures { result ≡ row_fault width narrow wild xs.now }
+pub fn check_row(xs: &[f32], width: usize, not_wide: u32, not_finite: u32) -> Result<(), Refusal>
+    ensures { result ≡ outcome_of (row_fault width not_wide not_finite xs.now) 0 }
 {
-    let finite = floats::all_finite(xs);
-    if xs.len() != width {
-        return narrow;
-    }
-    if !finite {
-        return wild;
-    }
-    0
+    refuse_unless(xs.len() == width, not_wide)?;
+    refuse_unless(floats::all_finite(xs), not_finite)
 }
 
-// The first row's fault in a batch, row by row.
-fn rows_fault(xs: &[f32], width: usize, narrow: u32, wild: u32) -> u32
-    requires { (0 < width) × (0 < narrow) }
-    ensures { result ≡ rows_fault width narrow wild xs.now }
+// A batch's rows in order.
+#[tactic(auto, using(crate::proofs::Rows::row_begins, refusals::proofs::Firsts::first_none, refusals::proofs::Firsts::first_more, refusals::proofs::Firsts::not_refused, refusals::proofs::Firsts::stops_at), unfolding(crate::specs::Batch::rows_fault))]
+fn check_rows(xs: &[f32], width: usize, not_wide: u32, not_finite: u32) -> Result<(), Refusal>
+    requires { 0 < width }
+    ensures { result ≡ outcome_of (rows_fault width not_wide not_finite xs.now) 0 }
 {
-    let rows = rows_in(xs.len(), width);
-    for r in 0..rows {
-        let fault = row_fault(row(xs, width, r), width, narrow, wild);
-        if fault != 0 {
-            return fault;
-        }
+    for r in 0..rows_in(xs.len(), width) {
+        check_row(row(xs, width, r), width, not_wide, not_finite)?;
     }
-    0
+    Ok(())
 }
 
-// What loss and training ask of a batch, in the order of R5.4: 12 to 18, and 0 where it is sound.
-pub fn batch_fault(inputs: &[f32], targets: &[f32], w: usize, v: usize) -> u32
+// What loss and training ask of a batch, in the order of R5.4: 12 to 18.
+#[tactic(auto, unfolding(crate::specs::Batch::batch_fault))]
+pub fn check_batch(inputs: &[f32], targets: &[f32], w: usize, v: usize) -> Result<(), Refusal>
     requires { (0 < w) × (0 < v) }
-    ensures { result ≡ batch_fault w v inputs.now targets.now }
+    ensures { result ≡ outcome_of (batch_fault w v inputs.now targets.now) 0 }
 {
     let rows = rows_in(inputs.len(), w);
-    if rows != rows_in(targets.len(), v) {
-        return 12;
-    }
-    if rows == 0 {
-        return 13;
-    }
-    let input = rows_fault(inputs, w, 14, 15);
-    if input != 0 {
-        return input;
-    }
-    let target = rows_fault(targets, v, 16, 17);
-    if target != 0 {
-        return target;
-    }
-    if targets.len() <= 16777216 { 0 } else { 18 }
+    refuse_unless(rows == rows_in(targets.len(), v), 12)?;
+    refuse_unless(rows != 0, 13)?;
+    check_rows(inputs, w, 14, 15)?;
+    check_rows(targets, v, 16, 17)?;
+    refuse_unless(targets.len() <= 16_777_216, 18)
 }

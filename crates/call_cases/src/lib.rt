@@ -5,14 +5,18 @@
 
 mod calls;
 
+use case_reading::Case;
+
 // A tag that is none of these agrees with nothing.
 pub fn agrees(tag: u8, words: &[u64]) -> bool {
-    match tag {
-        b'C' => calls::check_agrees(words),
-        b'I' => calls::initialise_agrees(words),
-        b'P' => calls::predict_agrees(words),
-        b'Q' => calls::drawn_predict_agrees(words),
-        b'L' => calls::loss_agrees(words),
-        _ => false,
-    }
+    let mut case = Case::new(words);
+    let met = match tag {
+        b'C' => calls::check(&mut case),
+        b'I' => calls::initialise(&mut case),
+        b'P' => calls::predict(&mut case),
+        b'Q' => calls::drawn_predict(&mut case),
+        b'L' => calls::mse_loss(&mut case),
+        _ => None,
+    };
+    met.is_some()
 }

@@ -1,14 +1,13 @@
 -- What an answer says of the refusal that it was made of, and when two configurations are answered alike.
 -- Assumes nothing.
+use Rattle.std.specs.Prelude.{Err, Ok}
 use Prim.Native.Nat.{ℕ, zero, suc}
 use native.Mathlib.Omega.{arith}
 use mathlib.Core.Path.{◌≡◌, refl, sym, ap}
 use mathlib.Core.Bool.{Bool, true, false}
 use borrow.Author.Tests.{ne_eqb}
 use Rattle.refusals.specs.declared.Refusal.{Refusal}
-use Rattle.refusals.specs.declared.Outcome.TheVariants.{Refused as Undone}
 use Rattle.refusals.specs.Refusals.{◌otherwise◌, ◌then◌, outcome_of}
-use Rattle.config.specs.declared.Checked.TheVariants.{Sound, Refused}
 use Rattle.config.specs.declared.Sizes.{Sizes}
 use Rattle.config.specs.Config.{carried_by, checked_of}
 use Rattle.config.proofs.Tests.{never}
@@ -18,7 +17,7 @@ pub record Accepted (n : ℕ) (s t : Sizes) : Type 0 where
   pub passed : n ≡ 0
   pub sizes : s ≡ t
 
-pub accepted : (n : ℕ) (s t : Sizes) → checked_of n s ≡ Sound t → Accepted n s t
+pub accepted : (n : ℕ) (s t : Sizes) → checked_of n s ≡ Ok t → Accepted n s t
 accepted zero s t e = record { passed = refl; sizes = cc }
 accepted (suc n) s t e = let z : ◌≡◌ {A = ℕ} 0 1 = cc in absurd (omega arith)
 
@@ -27,25 +26,25 @@ pub record Rejected (n : ℕ) (s : Sizes) (r : Refusal) : Type 0 where
   pub stopped : n ≡ 0 → ⊥
   pub carried : r.carried ≡ carried_by n s.parameters
   -- the same in one, for a call that answers with an `Outcome`
-  pub outcome : Undone r ≡ outcome_of n (carried_by n s.parameters)
+  pub outcome : Err r ≡ outcome_of n (carried_by n s.parameters)
 
-pub rejected : (n : ℕ) (s : Sizes) (r : Refusal) → checked_of n s ≡ Refused r → Rejected n s r
+pub rejected : (n : ℕ) (s : Sizes) (r : Refusal) → checked_of n s ≡ Err r → Rejected n s r
 rejected zero s r e = let z : ◌≡◌ {A = ℕ} 0 1 = cc in absurd (omega arith)
 rejected (suc n) s r e = record { number = cc; stopped = λ z. omega (arith, z); carried = cc; outcome = cc }
 
 -- a refusal that carries nothing
 pub refuses : (n : ℕ) (s : Sizes) → (n ≡ 0 → ⊥) → (n ≡ 7 → ⊥)
-    → Refused (record { number = n; carried = 0 }) ≡ checked_of n s
+    → Err (record { number = n; carried = 0 }) ≡ checked_of n s
 refuses zero s some h = absurd (some refl)
 refuses (suc n) s some h = rw (ne_eqb (suc n) 7 h)
 
 -- ---- more checks after an answer: a refusal stays, and an accepted configuration is left to them
-pub stays_refused : (n more : ℕ) (s : Sizes) (r : Refusal) → checked_of n s ≡ Refused r
-    → Refused r ≡ checked_of (n then more) s
+pub stays_refused : (n more : ℕ) (s : Sizes) (r : Refusal) → checked_of n s ≡ Err r
+    → Err r ≡ checked_of (n then more) s
 stays_refused zero more s r e = let z : ◌≡◌ {A = ℕ} 0 1 = cc in absurd (omega arith)
 stays_refused (suc n) more s r e = sym e
 
-pub goes_on : (n : ℕ) (s t : Sizes) (more : Sizes → ℕ) → checked_of n s ≡ Sound t
+pub goes_on : (n : ℕ) (s t : Sizes) (more : Sizes → ℕ) → checked_of n s ≡ Ok t
     → checked_of (n then more s) s ≡ checked_of (more t) t
 goes_on n s t more e =
     let a = accepted n s t e in rw a.passed (ap (λ (z : Sizes). checked_of (more z) z) a.sizes)
@@ -58,4 +57,4 @@ pub alike : (a b : Bool) (n k m : ℕ) (s t : Sizes)
 alike true true n k m s t c e h = h refl
 alike true false n k m s t c e h = never (sym e)
 alike false true n k m s t c e h = never e
-alike false false n k m s t c e h = ap (λ (v : ℕ). Refused (record { number = suc n; carried = v })) c
+alike false false n k m s t c e h = ap (λ (v : ℕ). Err (record { number = suc n; carried = v })) c

@@ -1,5 +1,6 @@
 -- The state after n widths, field by field, in the plain words of the definitions; and the answer from the state after
 -- all of them is that of `check_of`. Assumes nothing.
+use Rattle.std.specs.Prelude.{None, Some}
 use Prim.Native.Nat.{ℕ, zero, suc, ◌+◌, ◌-◌, ◌*◌, ◌^◌, ◌≤◌, min}
 use native.Mathlib.Nat.{zero-mul, mul_comm, mul_assoc}
 use native.Mathlib.Numerals.{add-one, sub-one}
@@ -17,7 +18,6 @@ use Rattle.spline.specs.declared.Grid.{Grid}
 use Rattle.layers.specs.Widths.{width_at, layer_size, params_to, widest_to, widths_to}
 use Rattle.layers.proofs.Widths.{params_more}
 use Rattle.config.specs.declared.Shape.{Shape}
-use Rattle.config.specs.declared.Whole.TheVariants.{Below, TooLarge}
 use Rattle.config.specs.Config.{shape_sound, products_fit, intervals_sound, domain_sound}
 use Rattle.config.specs.Config.{unit_grid, size_fault, config_fault, checked_of, check_of}
 use Rattle.config.specs.Fold.{whole_of, is_too_large, layer_of, add_sum, add_size, add_layer, step_of, empty_shape}
@@ -51,7 +51,7 @@ fits_is : (n : ℕ) → not (is_too_large (whole_of n)) ≡ ltb n (2 ^ 64)
 unfolding whole_of
 fits_is n = by (ltb n (2 ^ 64))
   where
-    by : (b : Bool) → not (is_too_large (cond b (Below n) TooLarge)) ≡ b
+    by : (b : Bool) → not (is_too_large (cond b (Some n) None)) ≡ b
     by true = refl
     by false = refl
 
@@ -85,7 +85,7 @@ sum_more : (sum : ℕ) → add_sum (whole_of sum) ≡ total_of (ltb sum (2 ^ 64)
 unfolding whole_of total_of
 sum_more sum = by (ltb sum (2 ^ 64))
   where
-    by : (b : Bool) → add_sum (cond b (Below sum) TooLarge) ≡ total_of (b otherwise 6) sum
+    by : (b : Bool) → add_sum (cond b (Some sum) None) ≡ total_of (b otherwise 6) sum
     by true = refl
     by false = refl
 
@@ -98,7 +98,7 @@ unfolding whole_of total_of
 size_more p size = by (ltb size (2 ^ 64))
   where
     by : (b : Bool)
-        → add_size p (cond b (Below size) TooLarge)
+        → add_size p (cond b (Some size) None)
         ≡ total_of (b otherwise 5 then ltb (p + size) (2 ^ 64) otherwise 6) (p + size)
     by true = sum_more (p + size)
     by false = refl

@@ -1,21 +1,18 @@
 -- R3.4, R4.1 to R4.9: the configuration checks in their order, and what `check` and `parameter_count` answer.
 -- Definitions only.
-use Rattle.std.specs.Prelude.{ℕ, zero, suc, ◌+◌, ◌-◌, ◌*◌, ◌^◌, Bool, cond, not, ◌&&◌, List, leb, ltb, eqb, length}
+use Rattle.std.specs.Prelude.{ℕ, ◌+◌, ◌-◌, ◌*◌, ◌^◌, Bool, cond, not, ◌&&◌, List, leb, ltb, eqb, length, Err, Ok}
+use Rattle.std.specs.declared.result.Result.{Result}
 use Rattle.std.specs.Float.{binary32}
 use Rattle.std.specs.Float.Ieee.{le, of_bits}
 use Rattle.std.specs.Float.Ieee.Scale.{finite}
 use Rattle.floats.specs.Binary32.{◌⊕◌, ◌⊖◌, ◌⊗◌, zero32, one32, three32}
 use Rattle.floats.specs.Sums.{all_to}
 use Rattle.refusals.specs.declared.Refusal.{Refusal}
-use Rattle.refusals.specs.Refusals.{◌otherwise◌, ◌then◌, first_to, past, none}
+use Rattle.refusals.specs.Refusals.{◌otherwise◌, ◌then◌, first_to, past, answer_of}
 use Rattle.spline.specs.declared.Grid.{Grid}
 use Rattle.spline.specs.Spline.{width_of}
 use Rattle.layers.specs.Widths.{width_at, layer_size, params_to, parameters_in, widest_in, nodes_in}
 use Rattle.config.specs.declared.Sizes.{Sizes}
-use Rattle.config.specs.declared.Checked.{Checked}
-use Rattle.config.specs.declared.Checked.TheVariants.{Sound, Refused}
-use Rattle.config.specs.declared.Counted.{Counted}
-use Rattle.config.specs.declared.Counted.TheVariants.{Parameters, Refused as Uncounted}
 
 -- ---- R4.1: 1, fewer than two widths, or a zero width
 unfoldable pub shape_sound : List ℕ → Bool
@@ -82,20 +79,14 @@ abbrev pub row_carried : ℕ → ℕ → ℕ → ℕ
 row_carried checks total row = past checks row (carried_by checks total)
 
 -- R4.9, R3.2: the sizes, or the refusal with what it carries
-abbrev pub checked_of : ℕ → Sizes → Checked
-checked_of zero s = Sound s
-checked_of (suc n) s = Refused (record { number = suc n; carried = carried_by (suc n) s.parameters })
+abbrev pub checked_of : ℕ → Sizes → Result Sizes Refusal
+checked_of n s = answer_of n (carried_by n s.parameters) s
 
 -- R4.9: `check`
-abbrev pub check_of : List ℕ → Grid → Checked
+abbrev pub check_of : List ℕ → Grid → Result Sizes Refusal
 check_of ws g = checked_of (config_fault ws g) (sizes_of ws g)
 
 -- R4.9: `parameter_count` answers P, or is refused alike
-abbrev pub count_of : Checked → Counted
-count_of (Sound s) = Parameters s.parameters
-count_of (Refused r) = Uncounted r
-
--- R3.2: the refusal that an answer is
-abbrev pub checked_refusal : Checked → Refusal
-checked_refusal (Sound s) = none
-checked_refusal (Refused r) = r
+abbrev pub count_of : Result Sizes Refusal → Result ℕ Refusal
+count_of (Ok s) = Ok s.parameters
+count_of (Err r) = Err r

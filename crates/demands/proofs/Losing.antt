@@ -54,7 +54,8 @@ module _ {N : Net} {ws : List ℕ} {D : Places} {ps qs : List Float} (two : Sibl
   sums_same (suc r) h clear =
       let before = first_before (loss_row_fault N ps ws xs ts) r (suc r) (omega arith) clear in
       let taken = first_clear (loss_row_fault N ps ws xs ts) (suc r) clear r (lt-suc_self r) in
-      let passed = test_passes _ 19 (both_pass (nodes_finite N ps ws (row_at xs (input_width ws) r) otherwise 20) _ taken).0 in
+      let row = row_at xs (input_width ws) r in
+      let passed = test_passes (nodes_finite N ps ws row) 19 (both_pass (nodes_finite N ps ws row otherwise 20) _ taken).0 in
       let sums = sums_same r (omega arith) before in
       let outputs = row_outputs r (omega arith) before passed in
       λ i. sum_from (sums i) (λ k. squared (at (outputs i) k) (at (row_at ts (output_width ws) r) k)) (output_width ws)

@@ -1,5 +1,6 @@
 -- What an accepted map shows: the coefficients that it marks 0 meet the premise of demand 3 for a prediction, a loss and a single
 -- step of training, and so demand 3's conclusion holds of them. Assumes nothing.
+use Rattle.std.specs.Prelude.{Ok}
 use Prim.Native.Nat.{ℕ, zero, suc, ◌+◌, ◌*◌, ◌/◌, ◌%◌, ◌<◌}
 use native.Mathlib.Nat.{le_of_eq, zero-mul, div-add-mod'}
 use native.Mathlib.Omega.{arith}
@@ -11,7 +12,6 @@ use lib.ListN.{length}
 use lib.Seq.{take_all}
 use lib.Ieee.{Float}
 use borrow.Author.Tests.{eqb-true}
-use Rattle.refusals.specs.declared.Outcome.TheVariants.{Done}
 use Rattle.refusals.proofs.Firsts.{both_pass, first_clear, not_refused}
 use Rattle.spline.specs.declared.Grid.{Grid}
 use Rattle.layers.specs.Net.{Net, net_of}
@@ -48,7 +48,7 @@ first_row w xs e = rw (zero-mul w) (take_all w xs (le_of_eq e))
 
 -- ---- an accepted call: no check refuses it and no row, and it leaves the marks of all rows
 module _ (ws : List ℕ) (g : Grid) (ps xs a b : List Float) (ms : List ℕ) (a' b' : List Float) (ms' : List ℕ)
-    (v : Visited (net_of g) ws g ps xs a b ms Done a' b' ms') where
+    (v : Visited (net_of g) ws g ps xs a b ms (Ok tt) a' b' ms') where
   abbrev N : Net
   N = net_of g
 

@@ -2,16 +2,17 @@
 -- they were lent; of two models, training leaves all other parameters equal, and each silent coefficient as its own
 -- model had it. Definitions only.
 use Rattle.std.specs.Prelude.{ℕ, ◌≡◌, true, false, List, length, Float}
+use Rattle.std.specs.declared.result.Result.{Result}
 use Rattle.floats.specs.Sums.{at}
-use Rattle.refusals.specs.declared.Outcome.{Outcome}
+use Rattle.refusals.specs.declared.Refusal.{Refusal}
+use Rattle.refusals.specs.Refusals.{Outcome}
 use Rattle.spline.specs.declared.Grid.{Grid}
 use Rattle.layers.specs.Net.{Net}
 use Rattle.forward.specs.Forward.{forward_refusal, forward_part, forward_first, forward_second}
 use Rattle.prediction.specs.Predict.{Predicted}
-use Rattle.loss.specs.declared.Loss.{Loss}
 use Rattle.loss.specs.Loss.{Lost}
 use Rattle.visit_map.specs.Visits.{Visited}
-use Rattle.training.specs.declared.calls.Training.{Training}
+use Rattle.training.specs.declared.calls.Stop.{Stop}
 use Rattle.training.specs.Train.{Stepped, Trained}
 use Rattle.demands.specs.Silent.{Places}
 
@@ -47,8 +48,8 @@ module _ (N M : Net) (ws : List ℕ) (g : Grid) (ps qs xs : List Float) where
   -- R9.1: `mse_loss`: the mean or the refusal, and both work slices
   abbrev pub SameLoss : List Float → List Float → List Float → Type 0
   SameLoss ts a b =
-      (r s : Loss) (a' b' a'' b'' : List Float) → Lost N ws g ps xs ts a b r a' b' → Lost M ws g qs xs ts a b s a'' b''
-      → (r ≡ s) × (a' ≡ a'') × (b' ≡ b'')
+      (r s : Result Float Refusal) (a' b' a'' b'' : List Float) → Lost N ws g ps xs ts a b r a' b'
+      → Lost M ws g qs xs ts a b s a'' b'' → (r ≡ s) × (a' ≡ a'') × (b' ≡ b'')
 
   -- R10.9: training: the answer with the steps done, both work slices, and the models left as `Left` says
   module _ (Left : List Float → List Float → Type 0) (ts : List Float) (rate : Float) (gs W : List Float) where
@@ -59,5 +60,5 @@ module _ (N M : Net) (ws : List ℕ) (g : Grid) (ps qs xs : List Float) where
 
     abbrev pub SameTraining : ℕ → Type 0
     SameTraining steps =
-        (r s : Training) (ps' gs' W' qs' gs'' W'' : List Float) → Trained N ws g ps xs ts rate gs W steps r ps' gs' W'
+        (r s : Result ℕ Stop) (ps' gs' W' qs' gs'' W'' : List Float) → Trained N ws g ps xs ts rate gs W steps r ps' gs' W'
         → Trained M ws g qs xs ts rate gs W steps s qs' gs'' W'' → (r ≡ s) × Left ps' qs' × (gs' ≡ gs'') × (W' ≡ W'')

@@ -1,8 +1,7 @@
 -- R17.4: what an accepted visit map says of demand 3: the coefficients that it marks 0 are silent at all that a prediction, a
 -- loss or a single step of training reads on the same model and inputs. Nothing is said of longer training, which moves what
 -- hidden nodes read. Definitions only.
-use Rattle.std.specs.Prelude.{ℕ, ◌%◌, ◌<◌, ◌&&◌, List, eqb, leb, get_or, Float}
-use Rattle.refusals.specs.declared.Outcome.TheVariants.{Done}
+use Rattle.std.specs.Prelude.{ℕ, ◌%◌, ◌<◌, ◌&&◌, Ok, List, eqb, leb, get_or, Float}
 use Rattle.spline.specs.declared.Grid.{Grid}
 use Rattle.layers.specs.Net.{Net, net_of}
 use Rattle.layers.specs.Widths.{input_width}
@@ -45,5 +44,5 @@ pub record MapShows (N : Net) (ws : List ℕ) (g : Grid) (ps xs : List Float) (m
 
 abbrev pub Unmarked : List ℕ → Grid → List Float → List Float → Type 0
 Unmarked ws g ps xs =
-    (a b : List Float) (ms : List ℕ) (a' b' : List Float) (ms' : List ℕ) → Visited (net_of g) ws g ps xs a b ms Done a' b' ms'
+    (a b : List Float) (ms : List ℕ) (a' b' : List Float) (ms' : List ℕ) → Visited (net_of g) ws g ps xs a b ms (Ok tt) a' b' ms'
     → MapShows (net_of g) ws g ps xs ms'

@@ -1,19 +1,19 @@
 // Public crate: the C linkage, and nothing else. A slice is a pointer and a length in elements; an answer goes out as
-// its number of refusal, 0 for none (R3.1, R14.2), and what that carries in a lent number.
+// its number of refusal, 0 for none (R3.1, R14.2), and in lent numbers what that carries and what else the answer has.
 #![tactic(auto)]
 
 ghost use Rattle.std.specs.Prelude.{◌≡◌};
 ghost use Rattle.layers.specs.Net.{net_of};
-ghost use Rattle.config.specs.Config.{check_of, checked_refusal};
-ghost use Rattle.refusals.specs.Refusals.{outcome_refusal};
+ghost use Rattle.config.specs.Config.{check_of};
+ghost use Rattle.refusals.specs.Refusals.{refusal_of};
 ghost use Rattle.initialisation.specs.Initialise.{Initialised};
 ghost use Rattle.prediction.specs.Predict.{Predicted};
-ghost use Rattle.loss.specs.Loss.{Lost, loss_refusal};
+ghost use Rattle.loss.specs.Loss.{Lost};
 ghost use Rattle.training.specs.Train.{Stepped, Trained, training_refusal, steps_done};
 ghost use Rattle.split_training.specs.Accumulating.{Accumulated};
 ghost use Rattle.split_training.specs.Applying.{Applied};
 ghost use Rattle.visit_map.specs.Visits.{Visited};
-ghost use Rattle.image_reading.specs.Image.{describe_of, described_refusal};
+ghost use Rattle.image_reading.specs.Image.{describe_of};
 ghost use Rattle.image_writing.specs.Writing.{ImageWritten};
 ghost use Rattle.image_unpacking.specs.Unpacking.{Unpacked};
 ghost use Rattle.npy_writing.specs.Writing.{NpyWritten};
@@ -22,7 +22,7 @@ ghost use Rattle.estimator.specs.Linkage.{Linked, grid_of, description_of};
 ghost use Rattle.estimator.specs.Linkage.{parameters_or, mean_or, description_or};
 
 use spline::Grid;
-use telling::{tell, tell_checked, tell_description, tell_loss, tell_training};
+use telling::tell;
 
 mod telling;
 
@@ -34,12 +34,15 @@ pub fn kan_check(
     parameters: &mut usize,
     carried: &mut usize,
 ) -> u32
-    ensures { Linked checked_refusal result carried.new (λ o.
+    ensures { Linked refusal_of result carried.new (λ o.
         (o ≡ check_of widths.now (grid_of intervals lo hi))
         × (parameters.new ≡ parameters_or o parameters.old)) }
 {
     let checked = config::check(widths, Grid { intervals, lo, hi });
-    tell_checked(checked, parameters, carried)
+    if let Ok(sizes) = checked {
+        *parameters = sizes.parameters;
+    }
+    tell(checked, carried)
 }
 
 pub fn kan_initialise(
@@ -51,7 +54,7 @@ pub fn kan_initialise(
     model: &mut [f32],
     carried: &mut usize,
 ) -> u32
-    ensures { Linked outcome_refusal result carried.new (λ o.
+    ensures { Linked refusal_of result carried.new (λ o.
         Initialised widths.now (grid_of intervals lo hi) seed model.old o model.new) }
 {
     let outcome = initialisation::initialise(widths, Grid { intervals, lo, hi }, seed, model);
@@ -70,7 +73,7 @@ pub fn kan_predict(
     outputs: &mut [f32],
     carried: &mut usize,
 ) -> u32
-    ensures { Linked outcome_refusal result carried.new (λ o.
+    ensures { Linked refusal_of result carried.new (λ o.
         Predicted (net_of (grid_of intervals lo hi)) widths.now (grid_of intervals lo hi) model.now
         inputs.now first.old second.old outputs.old o
         first.new second.new outputs.new) }
@@ -100,7 +103,7 @@ pub fn kan_loss(
     loss: &mut f32,
     carried: &mut usize,
 ) -> u32
-    ensures { Linked loss_refusal result carried.new (λ o.
+    ensures { Linked refusal_of result carried.new (λ o.
         Lost (net_of (grid_of intervals lo hi)) widths.now (grid_of intervals lo hi) model.now
         inputs.now targets.now first.old second.old o
         first.new second.new
@@ -115,7 +118,10 @@ pub fn kan_loss(
         first,
         second,
     );
-    tell_loss(answer, loss, carried)
+    if let Ok(mean) = answer {
+        *loss = mean;
+    }
+    tell(answer, carried)
 }
 
 pub fn kan_train_step(
@@ -131,7 +137,7 @@ pub fn kan_train_step(
     work: &mut [f32],
     carried: &mut usize,
 ) -> u32
-    ensures { Linked outcome_refusal result carried.new (λ o.
+    ensures { Linked refusal_of result carried.new (λ o.
         Stepped (net_of (grid_of intervals lo hi)) widths.now (grid_of intervals lo hi) model.old
         inputs.now targets.now rate gradients.old work.old o
         model.new gradients.new work.new) }
@@ -181,7 +187,8 @@ pub fn kan_train(
         gradients,
         work,
     );
-    tell_training(answer, done, carried)
+    *done = answer.unwrap_or_else(|stop| stop.done);
+    tell(answer.map_err(|stop| stop.refusal), carried)
 }
 
 pub fn kan_accumulate(
@@ -197,7 +204,7 @@ pub fn kan_accumulate(
     work: &mut [f32],
     carried: &mut usize,
 ) -> u32
-    ensures { Linked outcome_refusal result carried.new (λ o.
+    ensures { Linked refusal_of result carried.new (λ o.
         Accumulated (net_of (grid_of intervals lo hi)) widths.now (grid_of intervals lo hi) model.now
         inputs.now targets.now total gradients.old work.old o
         gradients.new work.new) }
@@ -225,7 +232,7 @@ pub fn kan_apply(
     rate: f32,
     carried: &mut usize,
 ) -> u32
-    ensures { Linked outcome_refusal result carried.new (λ o.
+    ensures { Linked refusal_of result carried.new (λ o.
         Applied widths.now (grid_of intervals lo hi) model.old gradients.now rate o
         model.new) }
 {
@@ -245,7 +252,7 @@ pub fn kan_visits(
     map: &mut [u8],
     carried: &mut usize,
 ) -> u32
-    ensures { Linked outcome_refusal result carried.new (λ o.
+    ensures { Linked refusal_of result carried.new (λ o.
         Visited (net_of (grid_of intervals lo hi)) widths.now (grid_of intervals lo hi) model.now
         inputs.now first.old second.old map.old o
         first.new second.new map.new) }
@@ -271,7 +278,7 @@ pub fn kan_image_write(
     image: &mut [u8],
     carried: &mut usize,
 ) -> u32
-    ensures { Linked outcome_refusal result carried.new (λ o.
+    ensures { Linked refusal_of result carried.new (λ o.
         ImageWritten widths.now (grid_of intervals lo hi) model.now image.old o
         image.new) }
 {
@@ -288,14 +295,21 @@ pub fn kan_image_read(
     parameters: &mut usize,
     carried: &mut usize,
 ) -> u32
-    ensures { Linked described_refusal result carried.new (λ o.
+    ensures { Linked refusal_of result carried.new (λ o.
         (o ≡ describe_of image.now)
         × (description_of intervals.new lo.new hi.new widths.new
         parameters.new ≡ description_or o (description_of intervals.old lo.old
         hi.old widths.old parameters.old))) }
 {
     let described = image_reading::describe(image);
-    tell_description(described, intervals, lo, hi, widths, parameters, carried)
+    if let Ok(description) = described {
+        *intervals = description.grid.intervals;
+        *lo = description.grid.lo;
+        *hi = description.grid.hi;
+        *widths = description.widths;
+        *parameters = description.parameters;
+    }
+    tell(described, carried)
 }
 
 pub fn kan_image_unpack(
@@ -304,7 +318,7 @@ pub fn kan_image_unpack(
     model: &mut [f32],
     carried: &mut usize,
 ) -> u32
-    ensures { Linked outcome_refusal result carried.new (λ o.
+    ensures { Linked refusal_of result carried.new (λ o.
         Unpacked image.now widths.old model.old o
         widths.new model.new) }
 {
@@ -322,7 +336,7 @@ pub fn kan_npy_write(
     file: &mut [u8],
     carried: &mut usize,
 ) -> u32
-    ensures { Linked outcome_refusal result carried.new (λ o.
+    ensures { Linked refusal_of result carried.new (λ o.
         NpyWritten widths.now (grid_of intervals lo hi) model.now layer file.old o
         file.new) }
 {
@@ -340,7 +354,7 @@ pub fn kan_npy_read(
     file: &[u8],
     carried: &mut usize,
 ) -> u32
-    ensures { Linked outcome_refusal result carried.new (λ o.
+    ensures { Linked refusal_of result carried.new (λ o.
         NpyRead widths.now (grid_of intervals lo hi) model.old layer file.now o
         model.new) }
 {

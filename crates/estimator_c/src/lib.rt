@@ -1,18 +1,19 @@
-// Public crate: the C linkage as an archive. Each C function is the function of `estimator` by the same name, with the same promise.
+// Public crate: the C linkage as an archive. Each C function is the function of `estimator` by the same name, with the
+// same promise.
 #![tactic(auto)]
 
 ghost use Rattle.std.specs.Prelude.{◌≡◌};
 ghost use Rattle.layers.specs.Net.{net_of};
-ghost use Rattle.config.specs.Config.{check_of, checked_refusal};
-ghost use Rattle.refusals.specs.Refusals.{outcome_refusal};
+ghost use Rattle.config.specs.Config.{check_of};
+ghost use Rattle.refusals.specs.Refusals.{refusal_of};
 ghost use Rattle.initialisation.specs.Initialise.{Initialised};
 ghost use Rattle.prediction.specs.Predict.{Predicted};
-ghost use Rattle.loss.specs.Loss.{Lost, loss_refusal};
+ghost use Rattle.loss.specs.Loss.{Lost};
 ghost use Rattle.training.specs.Train.{Stepped, Trained, training_refusal, steps_done};
 ghost use Rattle.split_training.specs.Accumulating.{Accumulated};
 ghost use Rattle.split_training.specs.Applying.{Applied};
 ghost use Rattle.visit_map.specs.Visits.{Visited};
-ghost use Rattle.image_reading.specs.Image.{describe_of, described_refusal};
+ghost use Rattle.image_reading.specs.Image.{describe_of};
 ghost use Rattle.image_writing.specs.Writing.{ImageWritten};
 ghost use Rattle.image_unpacking.specs.Unpacking.{Unpacked};
 ghost use Rattle.npy_writing.specs.Writing.{NpyWritten};
@@ -29,7 +30,7 @@ pub extern "C" fn kan_check(
     parameters: &mut usize,
     carried: &mut usize,
 ) -> u32
-    ensures { Linked checked_refusal result carried.new (λ o.
+    ensures { Linked refusal_of result carried.new (λ o.
         (o ≡ check_of widths.now (grid_of intervals lo hi))
         × (parameters.new ≡ parameters_or o parameters.old)) }
 {
@@ -46,7 +47,7 @@ pub extern "C" fn kan_initialise(
     model: &mut [f32],
     carried: &mut usize,
 ) -> u32
-    ensures { Linked outcome_refusal result carried.new (λ o.
+    ensures { Linked refusal_of result carried.new (λ o.
         Initialised widths.now (grid_of intervals lo hi) seed model.old o model.new) }
 {
     estimator::kan_initialise(widths, intervals, lo, hi, seed, model, carried)
@@ -65,7 +66,7 @@ pub extern "C" fn kan_predict(
     outputs: &mut [f32],
     carried: &mut usize,
 ) -> u32
-    ensures { Linked outcome_refusal result carried.new (λ o.
+    ensures { Linked refusal_of result carried.new (λ o.
         Predicted (net_of (grid_of intervals lo hi)) widths.now (grid_of intervals lo hi) model.now
         inputs.now first.old second.old outputs.old o
         first.new second.new outputs.new) }
@@ -89,7 +90,7 @@ pub extern "C" fn kan_loss(
     loss: &mut f32,
     carried: &mut usize,
 ) -> u32
-    ensures { Linked loss_refusal result carried.new (λ o.
+    ensures { Linked refusal_of result carried.new (λ o.
         Lost (net_of (grid_of intervals lo hi)) widths.now (grid_of intervals lo hi) model.now
         inputs.now targets.now first.old second.old o
         first.new second.new
@@ -114,7 +115,7 @@ pub extern "C" fn kan_train_step(
     work: &mut [f32],
     carried: &mut usize,
 ) -> u32
-    ensures { Linked outcome_refusal result carried.new (λ o.
+    ensures { Linked refusal_of result carried.new (λ o.
         Stepped (net_of (grid_of intervals lo hi)) widths.now (grid_of intervals lo hi) model.old
         inputs.now targets.now rate gradients.old work.old o
         model.new gradients.new work.new) }
@@ -166,7 +167,7 @@ pub extern "C" fn kan_accumulate(
     work: &mut [f32],
     carried: &mut usize,
 ) -> u32
-    ensures { Linked outcome_refusal result carried.new (λ o.
+    ensures { Linked refusal_of result carried.new (λ o.
         Accumulated (net_of (grid_of intervals lo hi)) widths.now (grid_of intervals lo hi) model.now
         inputs.now targets.now total gradients.old work.old o
         gradients.new work.new) }
@@ -187,7 +188,7 @@ pub extern "C" fn kan_apply(
     rate: f32,
     carried: &mut usize,
 ) -> u32
-    ensures { Linked outcome_refusal result carried.new (λ o.
+    ensures { Linked refusal_of result carried.new (λ o.
         Applied widths.now (grid_of intervals lo hi) model.old gradients.now rate o
         model.new) }
 {
@@ -207,7 +208,7 @@ pub extern "C" fn kan_visits(
     map: &mut [u8],
     carried: &mut usize,
 ) -> u32
-    ensures { Linked outcome_refusal result carried.new (λ o.
+    ensures { Linked refusal_of result carried.new (λ o.
         Visited (net_of (grid_of intervals lo hi)) widths.now (grid_of intervals lo hi) model.now
         inputs.now first.old second.old map.old o
         first.new second.new map.new) }
@@ -227,7 +228,7 @@ pub extern "C" fn kan_image_write(
     image: &mut [u8],
     carried: &mut usize,
 ) -> u32
-    ensures { Linked outcome_refusal result carried.new (λ o.
+    ensures { Linked refusal_of result carried.new (λ o.
         ImageWritten widths.now (grid_of intervals lo hi) model.now image.old o
         image.new) }
 {
@@ -244,7 +245,7 @@ pub extern "C" fn kan_image_read(
     parameters: &mut usize,
     carried: &mut usize,
 ) -> u32
-    ensures { Linked described_refusal result carried.new (λ o.
+    ensures { Linked refusal_of result carried.new (λ o.
         (o ≡ describe_of image.now)
         × (description_of intervals.new lo.new hi.new widths.new
         parameters.new ≡ description_or o (description_of intervals.old lo.old
@@ -260,7 +261,7 @@ pub extern "C" fn kan_image_unpack(
     model: &mut [f32],
     carried: &mut usize,
 ) -> u32
-    ensures { Linked outcome_refusal result carried.new (λ o.
+    ensures { Linked refusal_of result carried.new (λ o.
         Unpacked image.now widths.old model.old o
         widths.new model.new) }
 {
@@ -278,7 +279,7 @@ pub extern "C" fn kan_npy_write(
     file: &mut [u8],
     carried: &mut usize,
 ) -> u32
-    ensures { Linked outcome_refusal result carried.new (λ o.
+    ensures { Linked refusal_of result carried.new (λ o.
         NpyWritten widths.now (grid_of intervals lo hi) model.now layer file.old o
         file.new) }
 {
@@ -296,7 +297,7 @@ pub extern "C" fn kan_npy_read(
     file: &[u8],
     carried: &mut usize,
 ) -> u32
-    ensures { Linked outcome_refusal result carried.new (λ o.
+    ensures { Linked refusal_of result carried.new (λ o.
         NpyRead widths.now (grid_of intervals lo hi) model.old layer file.now o
         model.new) }
 {

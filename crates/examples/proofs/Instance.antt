@@ -14,8 +14,7 @@ use Rattle.spline.specs.Spline.{width_of, knot_of, portion_of, indicator_of, ble
 use Rattle.layers.specs.Net.{net_of}
 use Rattle.passes.specs.Pass.{nodes_of}
 use Rattle.batches.specs.Batch.{rows_in}
-use Rattle.refusals.specs.declared.Outcome.{Outcome}
-use Rattle.refusals.specs.Refusals.{outcome_of}
+use Rattle.refusals.specs.Refusals.{Outcome, outcome_of}
 use Rattle.refusals.proofs.Firsts.{not_refused}
 use Rattle.layers.specs.Widths.{widths_to, params_to}
 use Rattle.config.specs.Config.{unit_grid, carried_by}

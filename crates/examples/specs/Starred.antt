@@ -1,18 +1,18 @@
 -- R16.1 to R16.3: the settled examples marked *, in one statement about the definitions. Definitions only.
-use Rattle.std.specs.Prelude.{ℕ, ◌+◌, ◌-◌, ◌^◌, ◌≡◌, List, [], ◌∷◌, Float}
+use Rattle.std.specs.Prelude.{ℕ, ◌+◌, ◌-◌, ◌^◌, ◌≡◌, Ok, Err, List, [], ◌∷◌, Float}
+use Rattle.std.specs.declared.result.Result.{Result}
 use Rattle.std.specs.Float.{binary32}
 use Rattle.std.specs.Float.Ieee.{of_bits}
 use Rattle.floats.specs.Binary32.{zero32, one32}
 use Rattle.floats.specs.Sums.{tabulate, zeros}
+use Rattle.refusals.specs.declared.Refusal.{Refusal}
 use Rattle.exponential.specs.Exponential.{exp_of}
 use Rattle.spline.specs.declared.Grid.{Grid}
 use Rattle.spline.specs.Spline.{value_of, slope_of}
 use Rattle.spline.specs.Activation.{silu_derivative_of}
 use Rattle.layers.specs.Net.{net_of}
-use Rattle.config.specs.declared.Checked.{Checked}
-use Rattle.config.specs.declared.Checked.TheVariants.{Sound, Refused}
+use Rattle.config.specs.declared.Sizes.{Sizes}
 use Rattle.config.specs.Config.{unit_grid, check_of}
-use Rattle.loss.specs.declared.Loss.TheVariants.{Mean}
 use Rattle.loss.specs.Loss.{loss_answer}
 use Rattle.training.specs.Train.{model_after, train_fault, train_done}
 
@@ -35,8 +35,8 @@ abbrev pub weighted : List Float → List Float
 weighted coefficients = zero32 ∷ one32 ∷ coefficients
 
 -- R3.2: a refused configuration: the number, and what it carries
-abbrev pub refuse : ℕ → ℕ → Checked
-refuse n c = Refused (record { number = n; carried = c })
+abbrev pub refuse : ℕ → ℕ → Result Sizes Refusal
+refuse n c = Err (record { number = n; carried = c })
 
 -- R16.3: `train_step` on a model of [1, 1], g 2, x 0, target 1, rate 0.5, lent just what is needed: the step's refusal,
 -- and the model after it
@@ -52,7 +52,7 @@ after_step ms =
 -- R16.1 to R16.3: all of them
 pub record Starred : Type 0 where
   -- R16.1: [1, 1], g 249,995: accepted
-  pub largest : check_of one_to_one (unit_grid 249995) ≡ Sound (record { parameters = 250000; widest = 1; nodes = 2 })
+  pub largest : check_of one_to_one (unit_grid 249995) ≡ Ok (record { parameters = 250000; widest = 1; nodes = 2 })
   -- R16.1: g 249,996: 7 carrying 250,001, also with the domain [1, 1]
   pub too_large : check_of one_to_one (unit_grid 249996) ≡ refuse 7 250001
   pub size_first : check_of one_to_one (record { intervals = 249996; lo = one32; hi = one32 }) ≡ refuse 7 250001
@@ -77,7 +77,7 @@ pub record Starred : Type 0 where
   pub derivative : silu_derivative_of zero32 ≡ bits 0x3f00_0000
   -- R16.3: Z, x 0, target 1: the loss is 1, with just the work that is needed
   pub loss : loss_answer (net_of (unit_grid 2)) one_to_one (unit_grid 2) (weighted (zeros 5)) (zero32 ∷ []) (one32 ∷ []) (zeros 1) (zeros 1)
-      ≡ Mean one32
+      ≡ Ok one32
   -- R16.3: a step at rate 0.5 on Z is accepted, the weights stay, and the coefficients are the basis values
   pub accepted : step_refusal (weighted (zeros 5)) ≡ 0
   pub stepped : after_step (weighted (zeros 5))

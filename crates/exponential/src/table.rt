@@ -1,4 +1,6 @@
 // T, the scaled powers of two, as a caller holds it: a call that needs E often lays the table out once and lends it.
+ghost use Rattle.std.specs.Prelude.{◌≡◌, ◌<◌};
+ghost use Rattle.exponential.specs.Exponential.{scaled_of};
 ghost use Rattle.exponential.specs.Steps.{Powers};
 
 // T: 2^30 times 2^(i/256), rounded down. Words of 32 bits, since a use lays the table out on the stack.
@@ -37,8 +39,25 @@ const SCALED: [u32; 256] = [
     2101467501, 2107165158, 2112878262, 2118606856, 2124350982, 2130110682, 2135885998, 2141676972,
 ];
 
-pub fn scaled_powers() -> [u32; 256]
-    ensures { Powers result }
-{
-    SCALED
+// The table itself. Every one holds the right powers.
+#[derive(Drop)]
+pub struct PowerTable {
+    scaled: [u32; 256],
+    ghost powers: { Powers scaled },
+}
+
+impl PowerTable {
+    #[tactic(auto, using(crate::proofs::Stored::stored_powers))]
+    pub fn new() -> PowerTable {
+        PowerTable { scaled: SCALED }
+    }
+
+    // T[i].
+    #[tactic(auto, using(crate::proofs::Product::scaled_range))]
+    pub fn power(&self, i: usize) -> u64
+        requires { i < 256 }
+        ensures { result ≡ scaled_of i }
+    {
+        u64::from(self.scaled[i])
+    }
 }

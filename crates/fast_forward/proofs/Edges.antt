@@ -3,8 +3,9 @@ use mathlib.Core.Path.{◌≡◌, refl, ap, ◌∙◌}
 use Prim.Native.Nat.{ℕ, ◌+◌, ◌*◌, ◌≤◌, ◌<◌}
 use native.Mathlib.Nat.{le_refl, le_trans}
 use native.Mathlib.Omega.{arith}
-use mathlib.Core.List.{List, ◌++◌}
-use lib.ListN.{length, drop, set, length-set}
+use mathlib.Core.List.{List, [], ◌++◌, append-nil}
+use lib.ListN.{length, take, drop, set, length-set}
+use Rattle.std.proofs.lemmas.List.{drop_all, get_or-take, length-take-le}
 use lib.Ieee.{Float, nan}
 use Rattle.floats.specs.Binary32.{◌⊕◌, ◌⊗◌}
 use Rattle.floats.specs.Sums.{tabulate, at}
@@ -53,6 +54,15 @@ module _ {f : ℕ → Float} {ys : List Float} {n : ℕ} where
       → zs ≡ tabulate (λ (k : ℕ). at ys k ⊕ f k) n ++ drop n ys
   added_all {zs} {o} a h = let e : o ≡ n = omega (arith, a.bound) in rw e at a.sums
 
+-- the loop ran over the first n of ys alone
+pub added_front : {f : ℕ → Float} {n : ℕ} {zs : List Float} {o : ℕ} (ys : List Float) → Added f (take n ys) n zs o → n ≤ o → n ≤ length ys
+    → zs ++ drop n ys ≡ tabulate (λ (k : ℕ). at ys k ⊕ f k) n ++ drop n ys
+added_front {f} {n} {zs} {o} ys a h l =
+    let none : drop n (take n ys) ≡ [] = drop_all n (take n ys) (omega (arith, length-take-le n ys l)) in
+    let same : tabulate (λ (k : ℕ). at (take n ys) k ⊕ f k) n ≡ tabulate (λ (k : ℕ). at ys k ⊕ f k) n =
+    tab_ext _ _ n (λ k i. ap (λ (y : Float). y ⊕ f k) (get_or-take n ys k nan i)) in
+    ap (λ (z : List Float). z ++ drop n ys) (added_all a h ∙ rw (none, append-nil, same))
+
 -- ---- the edge of output o and input j
 module _ {g : Grid} {ps : List Float} {w j n : ℕ} (r : Edges g ps w j n) where
   pub edge_within : (o : ℕ) → o < n
@@ -68,11 +78,6 @@ module _ {g : Grid} {ps : List Float} {w j n : ℕ} (r : Edges g ps w j n) where
   first_there =
       let row = row_room n (w * (g.intervals + 5)) (length ps) r.layer.some r.layer.there in
       (row, room j w (g.intervals + 5) (length ps) r.input row)
-
-  -- a turn at output o
-  pub turn : (ys zs : List Float) (o : ℕ) → o < n → n ≤ length ys → length zs ≡ length ys
-      → (o * (w * (g.intervals + 5)) + j * (g.intervals + 5) + (g.intervals + 5) ≤ length ps) × (o < length zs)
-  turn ys zs o l h e = (edge_there o l, omega arith)
 
   pub edge_finite : (o : ℕ) → o < n
       → Finite (g.intervals + 5) (drop (j * (g.intervals + 5)) (drop (o * (w * (g.intervals + 5))) ps))

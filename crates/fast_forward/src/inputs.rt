@@ -1,13 +1,13 @@
 // One input's edges, added to every output of a layer. The input itself is handed over, so that it may stand in the
 // same slice as the outputs.
 ghost use Rattle.std.specs.Prelude.{◌≡◌, true, ◌+◌, ◌≤◌, length};
-ghost use Rattle.exponential.specs.Steps.{Powers};
-ghost use Rattle.local_basis.specs.Meshes.{Meshed, grid_by, mesh_by};
+ghost use Rattle.local_basis.specs.Meshes.{Meshed, grid_by};
 ghost use Rattle.local_basis.specs.Fours.{four_dot};
 ghost use Rattle.layers.specs.Basis.{Basis};
 ghost use Rattle.layers.specs.Net.{basis_of};
 ghost use Rattle.fast_forward.specs.Inputs.{edge_four, added_input, Edges};
 
+use exponential::PowerTable;
 use local_basis::{Four, Mesh};
 use spline::Grid;
 
@@ -29,9 +29,10 @@ pub fn edge_by(params: &[f32], silu: f32, four: Four) -> f32
     params[0] * silu + params[1] * curve_by(params, four)
 }
 
+#[tactic(auto, using(floats::proofs::Loops::rest_length, local_basis::proofs::Meshes::by_numbers, crate::proofs::Edges::edge_there, crate::proofs::Edges::first_there))]
 fn add_four(
     mesh: Mesh,
-    table: &[u32; 256],
+    table: &PowerTable,
     params: &[f32],
     w: usize,
     j: usize,
@@ -39,7 +40,7 @@ fn add_four(
     outputs: &mut [f32],
     n: usize,
 )
-    requires { Meshed mesh × Powers table.now × Edges mesh.grid params.now w j n × (n ≤ length outputs.old)
+    requires { Edges mesh.grid params.now w j n × (n ≤ length outputs.old)
         × (mesh.calm ≡ true) }
     ensures { outputs.new ≡ added_input (basis_of mesh.grid) params.now w j x
         outputs.old n }
@@ -55,15 +56,16 @@ fn add_four(
         mesh.width,
         x,
     );
-    for o in 0..n {
+    for (o, output) in outputs[..n].iter_mut().enumerate() {
         let at = o * row + first;
-        outputs[o] = outputs[o] + edge_by(&params[at..], silu, four);
+        *output += edge_by(&params[at..], silu, four);
     }
 }
 
+#[tactic(auto, using(floats::proofs::Loops::rest_length, crate::proofs::Edges::edge_there, crate::proofs::Edges::first_there))]
 fn add_plain(
     mesh: Mesh,
-    table: &[u32; 256],
+    table: &PowerTable,
     params: &[f32],
     w: usize,
     j: usize,
@@ -71,7 +73,7 @@ fn add_plain(
     outputs: &mut [f32],
     n: usize,
 )
-    requires { Meshed mesh × Powers table.now × Edges mesh.grid params.now w j n
+    requires { Edges mesh.grid params.now w j n
         × (n ≤ length outputs.old) }
     ensures { outputs.new ≡ added_input (basis_of mesh.grid) params.now w j x
         outputs.old n }
@@ -80,9 +82,9 @@ fn add_plain(
     let row = w * stride;
     let first = j * stride;
     let silu = spline::silu_by(table, x);
-    for o in 0..n {
+    for (o, output) in outputs[..n].iter_mut().enumerate() {
         let at = o * row + first;
-        outputs[o] = outputs[o] + layers::edge(mesh.grid, &params[at..], x, silu);
+        *output += layers::edge(mesh.grid, &params[at..], x, silu);
     }
 }
 
@@ -94,7 +96,7 @@ pub fn add_input(
     hi: f32,
     width: f32,
     calm: bool,
-    table: &[u32; 256],
+    table: &PowerTable,
     params: &[f32],
     w: usize,
     j: usize,
@@ -102,8 +104,7 @@ pub fn add_input(
     outputs: &mut [f32],
     n: usize,
 )
-    requires { Meshed (mesh_by intervals lo hi width calm) × Powers table.now
-        × Edges (grid_by intervals lo hi) params.now w j n × (n ≤ length outputs.old) }
+    requires { Meshed (grid_by intervals lo hi) width calm × Edges (grid_by intervals lo hi) params.now w j n × (n ≤ length outputs.old) }
     ensures { outputs.new ≡ added_input (basis_of (grid_by intervals lo hi)) params.now w j x
         outputs.old n }
 {

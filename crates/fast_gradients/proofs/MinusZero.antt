@@ -23,10 +23,6 @@ pub and_left : (a b : Bool) → (a && b) ≡ true → a ≡ true
 and_left true b e = refl
 and_left false b e = absurd (true≢false (sym e))
 
-pub and_right : (a b : Bool) → (a && b) ≡ true → b ≡ true
-and_right true b e = e
-and_right false b e = absurd (true≢false (sym e))
-
 -- a finite number that equals zero has no digits
 no_digits : (s : Bool) (m : ℕ) (e : ℤ) → eq (fin s m e) zero32 ≡ true → m ≡ 0
 unfolding eq of_bits

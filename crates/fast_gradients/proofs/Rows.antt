@@ -125,9 +125,6 @@ module _ {p : ℕ → ℕ} {f : ℕ → List Float} {n : ℕ} {ds : List Float} 
         sums = new ∙ ap (λ (z : List Float). plus_from (p o) z (f o)) s.sums ∙ ap (plus_each p f ds) (sym (add-one o));
       }
 
-  pub each_all : {e : List Float} {o : ℕ} → Each p f n ds e o → n ≤ o → e ≡ plus_each p f ds n
-  each_all {e} {o} s h = let last : o ≡ n = omega (arith, s.bound) in rw last at s.sums
-
 -- ---- rows, to which one edge more is added each
 pub rows_none : (p : ℕ → ℕ) (f : ℕ → ℕ → List Float) (ds : List Float) (n : ℕ)
     → ds ≡ plus_each p (λ (o : ℕ). flat_to (f o) 0) ds n

@@ -8,32 +8,33 @@ mod zeros;
 
 ghost use Rattle.std.specs.Prelude.{◌≡◌, true, ℕ, ◌+◌, ◌*◌, ◌≤◌, ◌<◌, length};
 ghost use Rattle.floats.specs.Sums.{tabulate};
-ghost use Rattle.exponential.specs.Steps.{Powers};
 ghost use Rattle.spline.specs.Activation.{silu_of};
-ghost use Rattle.local_basis.specs.Meshes.{Meshed};
 ghost use Rattle.local_basis.specs.Fours.{Finite, Values};
 ghost use Rattle.layers.specs.Net.{basis_of};
 ghost use Rattle.gradients.specs.Gradient.{slot_of, layer_slots};
 ghost use Rattle.gradients.specs.Steps.{plus_of, Cells};
 ghost use Rattle.fast_gradients.specs.Adding.{Clean, Gradients, four_added, input_slots, plus_each};
 
+use exponential::PowerTable;
 use local_basis::{Four, Mesh};
 use spline::Grid;
 pub use zeros::no_minus_zero;
 
 // Adds u times the four values to the gradients of an edge's coefficients.
+#[tactic(auto, unfolding(crate::specs::Adding::four_added))]
 fn add_four(u: f32, four: Four, gradients: &mut [f32])
     requires { four.start + 4 ≤ length gradients.old }
     ensures { gradients.new ≡ four_added gradients.old u four }
 {
     let at = four.start;
-    gradients[at] = gradients[at] + u * four.first;
-    gradients[at + 1] = gradients[at + 1] + u * four.second;
-    gradients[at + 2] = gradients[at + 2] + u * four.third;
-    gradients[at + 3] = gradients[at + 3] + u * four.fourth;
+    gradients[at] += u * four.first;
+    gradients[at + 1] += u * four.second;
+    gradients[at + 2] += u * four.third;
+    gradients[at + 3] += u * four.fourth;
 }
 
 // What `gradients::add_edge` does. An infinity or a NaN times a zero is a NaN: there all coefficients are added to.
+#[tactic(auto, using(floats::proofs::Loops::rest, floats::proofs::Loops::rest_length))]
 fn add_edge(
     grid: Grid,
     params: &[f32],
@@ -49,8 +50,8 @@ fn add_edge(
         ≡ plus_of gradients.old
         (tabulate (slot_of (basis_of grid) params.now x up) (grid.intervals + 5)) }
 {
-    gradients[0] = gradients[0] + up * silu;
-    gradients[1] = gradients[1] + up * fast_forward::curve_by(params, four);
+    gradients[0] += up * silu;
+    gradients[1] += up * fast_forward::curve_by(params, four);
     let u = up * params[1];
     if floats::is_finite(u) {
         add_four(u, four, &mut gradients[2..]);
@@ -60,9 +61,10 @@ fn add_edge(
 }
 
 // The edges of x, the i-th of w inputs.
+#[tactic(auto, using(floats::proofs::Loops::rest_length, fast_forward::proofs::Edges::edge_there, fast_forward::proofs::Edges::edge_within, fast_forward::proofs::Edges::first_there))]
 fn add_input(
     mesh: Mesh,
-    table: &[u32; 256],
+    table: &PowerTable,
     params: &[f32],
     w: usize,
     i: usize,
@@ -70,8 +72,7 @@ fn add_input(
     ups: &[f32],
     gradients: &mut [f32],
 )
-    requires { Meshed mesh × Powers table.now
-        × Gradients mesh.grid params.now w (length ups.now) gradients.old
+    requires { Gradients mesh.grid params.now w (length ups.now) gradients.old
         × Clean (length ups.now * (w * (mesh.grid.intervals + 5))) gradients.old × (i < w)
         × (mesh.calm ≡ true) }
     ensures { gradients.new
@@ -84,7 +85,7 @@ fn add_input(
     let first = i * stride;
     let silu = spline::silu_by(table, x);
     let four = local_basis::values_at(mesh, x);
-    for o in 0..ups.len() {
+    for (o, up) in ups.iter().enumerate() {
         let at = o * row + first;
         add_edge(
             mesh.grid,
@@ -92,7 +93,7 @@ fn add_input(
             x,
             silu,
             four,
-            ups[o],
+            *up,
             &mut gradients[at..],
         );
     }
@@ -100,22 +101,21 @@ fn add_input(
 
 fn add_inputs(
     mesh: Mesh,
-    table: &[u32; 256],
+    table: &PowerTable,
     params: &[f32],
     inputs: &[f32],
     ups: &[f32],
     gradients: &mut [f32],
 )
-    requires { Meshed mesh × Powers table.now
-        × Gradients mesh.grid params.now (length inputs.now) (length ups.now) gradients.old
+    requires { Gradients mesh.grid params.now (length inputs.now) (length ups.now) gradients.old
         × Clean (length ups.now * (length inputs.now * (mesh.grid.intervals + 5))) gradients.old
         × (mesh.calm ≡ true) }
     ensures { gradients.new ≡ plus_of gradients.old
         (layer_slots (basis_of mesh.grid) params.now inputs.now ups.now) }
 {
     let w = inputs.len();
-    for i in 0..w {
-        add_input(mesh, table, params, w, i, inputs[i], ups, gradients);
+    for (i, x) in inputs.iter().enumerate() {
+        add_input(mesh, table, params, w, i, *x, ups, gradients);
     }
 }
 
@@ -123,15 +123,14 @@ fn add_inputs(
 // one, and is then added to in full.
 pub fn add_layer(
     mesh: Mesh,
-    table: &[u32; 256],
+    table: &PowerTable,
     params: &[f32],
     inputs: &[f32],
     ups: &[f32],
     gradients: &mut [f32],
     clean: bool,
 )
-    requires { Meshed mesh × Powers table.now
-        × Gradients mesh.grid params.now (length inputs.now) (length ups.now) gradients.old
+    requires { Gradients mesh.grid params.now (length inputs.now) (length ups.now) gradients.old
         × (clean ≡ true
         → Clean (length ups.now * (length inputs.now * (mesh.grid.intervals + 5))) gradients.old) }
     ensures { gradients.new ≡ plus_of gradients.old

@@ -4,6 +4,7 @@ ghost use Rattle.floats.specs.Zeros.{is_minus_zero};
 ghost use Rattle.fast_gradients.specs.Adding.{Tested};
 
 // Of the two zeros, the one with a bit set.
+#[tactic(auto, using(crate::proofs::MinusZero::zero_by_bits, crate::proofs::MinusZero::no_zero, crate::proofs::MinusZero::eq_real))]
 fn is_minus_zero(x: f32) -> bool
     ensures { result ≡ is_minus_zero x }
 {
@@ -17,9 +18,7 @@ fn is_minus_zero(x: f32) -> bool
 pub fn no_minus_zero(numbers: &[f32]) -> bool
     ensures { Tested numbers.now result }
 {
-    let mut clean = true;
-    for i in 0..numbers.len() {
-        clean = clean & !is_minus_zero(numbers[i]);
-    }
-    clean
+    numbers
+        .iter()
+        .fold(true, |clean, x| clean & !is_minus_zero(*x))
 }

@@ -1,5 +1,5 @@
 -- A walk over the layers of a model that fills each: where it stands, and one layer more. Assumes nothing.
-use mathlib.Core.Path.{◌≡◌, refl, sym, subst, ◌∙◌}
+use mathlib.Core.Path.{◌≡◌, refl, sym, ◌∙◌}
 use mathlib.Core.List.{List}
 use Prim.Native.Nat.{ℕ, ◌+◌, ◌-◌, ◌*◌, ◌≤◌, ◌<◌}
 use native.Mathlib.Nat.{le_trans, le_of_eq}
@@ -35,10 +35,10 @@ layer_more g l w n at ws G H r d e y p q s h k f =
     one_done (layer_plan g ws) (layers_sound g ws) G d l at e y H r s h k (rw (p, q) at f)
 
 module _ {g : Grid} {ws : List ℕ} {G : SplitMix64} {d : List Float} where
-  -- the number of a cursor that stands at layer l is l
-  pub here : {l : ℕ} {c : Layer} {e : List Float} {H : SplitMix64} → Walked g ws G d l c e H
-      → Walked g ws G d c.index c e H
-  here {c = c} {e} {H} k = subst (λ (i : ℕ). Walked g ws G d i c e H) (sym k.stands.index) k
+  -- from a cursor that stands at layer l the walk goes on to the layer behind it
+  pub next_here : {l : ℕ} {c b : Layer} {e : List Float} {H : SplitMix64} → Walked g ws G d l c e H
+      → Stands g ws (c.index + 1) b → Stands g ws (l + 1) b
+  next_here k s = rw k.stands.index at s
 
   pub set_out : {c : Layer} → Stands g ws 0 c → Walked g ws G d 0 c d G
   set_out s = record {

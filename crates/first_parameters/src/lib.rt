@@ -19,16 +19,17 @@ fn fill_edge(random: SplitMix64, intervals: usize, root: f32, params: &mut [f32]
     params[0] = base.value / root;
     params[1] = 1.0;
     let mut next = base.next;
-    let n = intervals + 3;
-    for k in 0..n {
+    let end = intervals + 5;
+    for coefficient in params[2..end].iter_mut() {
         let drawn = next.signed_uniform();
-        params[2 + k] = 0.01 * drawn.value;
+        *coefficient = 0.01 * drawn.value;
         next = drawn.next;
     }
     next
 }
 
 // One layer, edge by edge. All edges divide by the same root, so it is worked out once.
+#[tactic(auto, using(crate::proofs::Parts::edges_below))]
 fn fill_layer(
     mut random: SplitMix64,
     intervals: usize,
@@ -43,6 +44,7 @@ fn fill_layer(
     let stride = intervals + 5;
     let root = generator::root(inputs);
     let edges = outputs * inputs;
+    // By place, since a proof does not know what the parts of `chunks_exact_mut` were left with.
     for e in 0..edges {
         let at = e * stride;
         random = fill_edge(random, intervals, root, &mut params[at..]);
@@ -55,10 +57,9 @@ pub fn initialise(widths: &[usize], grid: Grid, seed: u64, model: &mut [f32])
     requires { Whole grid widths.now model.old }
     ensures { model.new ≡ model_initial widths.now grid.intervals seed }
 {
-    let layers = widths.len() - 1;
     let mut random = SplitMix64::new(seed);
     let mut layer = Layer::first(widths, grid);
-    while layer.index < layers {
+    for _ in 0..widths.len() - 1 {
         let at = layer.at;
         random = fill_layer(
             random,

@@ -1,17 +1,19 @@
 -- A single forward pass from its parts. Assumes nothing.
+use Rattle.std.specs.Prelude.{Ok, Err}
 use mathlib.Core.Path.{◌≡◌, refl, sym, ap, subst, ◌∙◌}
 use mathlib.Core.Bool.{Bool, true, false, cond}
 use mathlib.Core.List.{List, [], ◌∷◌, ◌++◌}
-use Prim.Native.Nat.{ℕ, zero, suc, ◌+◌, ◌-◌, ◌%◌, ◌≤◌, ◌<◌}
+use Prim.Native.Nat.{ℕ, zero, suc, ◌-◌, ◌%◌, ◌≤◌, ◌<◌}
 use native.Mathlib.Omega.{arith}
 use lib.Dec.{eqb}
 use lib.ListN.{length, take, drop, length-append, length-drop}
-use lib.Seq.{drop-drop, length-take-le}
+use lib.Seq.{length-take-le}
 use lib.Ieee.{Float}
-use borrow.Rule.Slice.PartMut.{put_mid}
 use Rattle.floats.specs.Sums.{all_finite, zeros}
-use Rattle.floats.proofs.Loops.{put_rest, rest, tab_length}
-use Rattle.refusals.specs.Refusals.{◌then◌, past}
+use Rattle.floats.proofs.Loops.{rest, tab_length}
+use Rattle.refusals.specs.declared.Refusal.{Refusal}
+use Rattle.refusals.specs.Refusals.{◌otherwise◌, ◌then◌, past, Outcome, outcome_of, refusal_of}
+use Rattle.refusals.proofs.Firsts.{test_passes, not_refused, refused}
 use Rattle.spline.specs.declared.Grid.{Grid}
 use Rattle.layers.specs.Net.{Net}
 use Rattle.layers.specs.Widths.{output_width, widest_in}
@@ -24,36 +26,32 @@ use Rattle.forward.specs.Forward.{pass_refusal, in_first, fronted, forward_refus
 use Rattle.forward.specs.Steps.{Passed, swept_from, Swept, Forwarded}
 
 -- ---- 11 and the row
-pub ran_passed : (N : Net) (ps : List Float) (ws : List ℕ) (xs a b a' b' : List Float) (r : ℕ) → all_finite ps ≡ true
+pub found_finite : (ps : List Float) (t : Bool) {r : Outcome} → t ≡ all_finite ps → r ≡ outcome_of (t otherwise 11) 0
+    → r ≡ Ok tt → all_finite ps ≡ true
+found_finite ps t q p e = sym q ∙ test_passes _ 10 (not_refused _ 0 (sym p ∙ e))
+
+pub ran_passed : (N : Net) (ps : List Float) (ws : List ℕ) (xs a b a' b' : List Float) (r : Outcome) → all_finite ps ≡ true
     → Ran N ps ws xs a b a' b' r → Passed N ps ws xs a b a' b' r
 unfolding pass_refusal
 ran_passed N ps ws xs a b a' b' r e t = record {
-  refusal = t.refusal ∙ sym (rw e);
+  refusal = rw e t.refusal;
   outputs = t.outputs;
   first = t.first;
   second = t.second;
 }
 
-pub wild_passed : (N : Net) (ps : List Float) (ws : List ℕ) (xs a b : List Float) → all_finite ps ≡ false → Passed N ps ws xs a b a b 11
+pub wild_passed : (N : Net) (ps : List Float) (ws : List ℕ) (xs a b : List Float) (t : Bool) (e : Refusal)
+    → t ≡ all_finite ps → Err e ≡ outcome_of (t otherwise 11) 0 → Passed N ps ws xs a b a b (Err e)
 unfolding pass_refusal
-wild_passed N ps ws xs a b e = record {
-  refusal = sym (rw e);
-  outputs = λ (q : ◌≡◌ {A = ℕ} 11 0). absurd (omega arith);
+wild_passed N ps ws xs a b true e q p = cc
+wild_passed N ps ws xs a b false e q p = record {
+  refusal = rw (← q) p;
+  outputs = λ z. cc;
   first = λ m h. refl;
   second = λ m h. refl;
 }
 
 -- ---- the sweep of one slice
-pub swept_behind : (front widest : ℕ) (s y : List Float) → front ≤ widest → widest ≤ length s
-    → y ≡ zeros (widest - front) ++ drop (widest - front) (take (length s - front) (drop front s))
-    → put_mid front (length s - front) s y ≡ swept_from front widest s
-swept_behind front widest s y h k p =
-    let c = widest - front in
-    let e : front + c ≡ widest = omega arith in
-    put_rest front s y (omega arith) ∙ ap (λ (l : List Float). take front s ++ l)
-    (p ∙ ap (λ (l : List Float). zeros c ++ drop c l) (rest front s)
-    ∙ ap (λ (l : List Float). zeros c ++ l) (drop-drop c front s ∙ ap (λ (n : ℕ). drop n s) e))
-
 -- what a swept slice holds, seen from before the pass
 held_front : (ws : List ℕ) (n widest : ℕ) (s s₁ os : List Float) → take n s₁ ≡ os → length os ≡ n → drop widest s₁ ≡ drop widest s
     → swept_from n widest s₁ ≡ fronted os widest s
@@ -79,6 +77,10 @@ held_part zero n true widest os a b = take_front (past n os []) _
 held_part zero n false widest os a b = take_front (past n os []) _
 
 -- ---- the whole pass
+number_of : (n : ℕ) (r : Outcome) → r ≡ outcome_of n 0 → (refusal_of r).number ≡ n
+number_of zero r e = rw e
+number_of (suc n) r e = rw e
+
 module _ (N : Net) (ws : List ℕ) (g : Grid) (ps xs a b : List Float) where
   abbrev checks : ℕ
   checks = up_to9 ws g (length ps) (length a) (length b)
@@ -102,7 +104,7 @@ module _ (N : Net) (ws : List ℕ) (g : Grid) (ps xs a b : List Float) where
       let t : length (take front s) ≡ front = length-take-le front s (omega arith) in
       rw (length-append, length-append, length-drop) (omega arith)
 
-  module _ (r : ℕ) (a₁ b₁ a₂ b₂ : List Float) (ok : checks ≡ 0) (la : length a₁ ≡ length a) (lb : length b₁ ≡ length b)
+  module _ (r : Outcome) (a₁ b₁ a₂ b₂ : List Float) (ok : checks ≡ 0) (la : length a₁ ≡ length a) (lb : length b₁ ≡ length b)
       (done : Passed N ps ws xs a b a₁ b₁ r) where
     known : Past9 ws g (length ps) (length a) (length b)
     known = past9 ws g (length ps) (length a) (length b) ok
@@ -110,7 +112,7 @@ module _ (N : Net) (ws : List ℕ) (g : Grid) (ps xs a b : List Float) where
     -- os outputs of n numbers, n of them standing where the parity says
     finish : (n : ℕ) (os : List Float) → n ≤ widest_in ws → past (pass_refusal N ps ws xs) (outputs_of N ps ws xs) [] ≡ os → length os ≡ n
         → take n (holder (length ws - 1) a₁ b₁) ≡ os → Swept (length ws - 1) n (widest_in ws) a₁ b₁ a₂ b₂
-        → Forwarded N ws g ps xs a b r n a₂ b₂
+        → Forwarded N ws g ps xs a b (refusal_of r).number n a₂ b₂
     unfolding in_first forward_refusal forward_part forward_first forward_second
     finish n os h o l f t = go (eqb ((length ws - 1) % 2) 0) refl
       where
@@ -129,13 +131,13 @@ module _ (N : Net) (ws : List ℕ) (g : Grid) (ps xs a b : List Float) where
         wb : w ≤ length b₁
         wb = omega (arith, known.second)
 
-        go : (e : Bool) → eqb ((length ws - 1) % 2) 0 ≡ e → Forwarded N ws g ps xs a b r n a₂ b₂
+        go : (e : Bool) → eqb ((length ws - 1) % 2) 0 ≡ e → Forwarded N ws g ps xs a b (refusal_of r).number n a₂ b₂
         go true e =
             let ta : a₂ ≡ swept_from 0 w a₁ = rw e at t.first in
             let tb : b₂ ≡ swept_from n w b₁ = rw e at t.second in
             let at : take n b₁ ≡ os = rw e at f in
             record {
-              number = rw ok done.refusal;
+              number = rw ok (number_of _ r done.refusal);
               count = rw (ok, o) (sym l);
               first = rw (ok, e) (ta ∙ held_front ws 0 w a a₁ [] refl refl pa);
               second = rw (ok, e, o) (tb ∙ held_front ws n w b b₁ os at l pb);
@@ -147,7 +149,7 @@ module _ (N : Net) (ws : List ℕ) (g : Grid) (ps xs a b : List Float) where
             let tb : b₂ ≡ swept_from 0 w b₁ = rw e at t.second in
             let at : take n a₁ ≡ os = rw e at f in
             record {
-              number = rw ok done.refusal;
+              number = rw ok (number_of _ r done.refusal);
               count = rw (ok, o) (sym l);
               first = rw (ok, e, o) (ta ∙ held_front ws n w a a₁ os at l pa);
               second = rw (ok, e) (tb ∙ held_front ws 0 w b b₁ [] refl refl pb);
@@ -164,21 +166,22 @@ module _ (N : Net) (ws : List ℕ) (g : Grid) (ps xs a b : List Float) where
     none zero os e = absurd (e refl)
     none (suc n) os e = refl
 
-    pub passed_through : (n : ℕ) → n ≡ output_width ws → r ≡ 0 → Swept (length ws - 1) n (widest_in ws) a₁ b₁ a₂ b₂
-        → Forwarded N ws g ps xs a b r n a₂ b₂
+    pub passed_through : (n : ℕ) → n ≡ output_width ws → r ≡ Ok tt → Swept (length ws - 1) n (widest_in ws) a₁ b₁ a₂ b₂
+        → Forwarded N ws g ps xs a b 0 n a₂ b₂
     passed_through n e z t =
         let os = outputs_of N ps ws xs in
-        finish n os (rw e (known.size.within (length ws - 1) (last (length ws) known.size.some)))
-        (given (pass_refusal N ps ws xs) os (sym done.refusal ∙ z)) (outputs_length N ps ws xs known.size.some ∙ sym e)
-        (rw e (done.outputs z)) t
+        rw z at (finish n os (rw e (known.size.within (length ws - 1) (last (length ws) known.size.some)))
+        (given (pass_refusal N ps ws xs) os (not_refused _ 0 (sym done.refusal ∙ z)))
+        (outputs_length N ps ws xs known.size.some ∙ sym e) (rw e (done.outputs z)) t)
       where
         last : (n : ℕ) → 2 ≤ n → n - 1 < n
         last n h = omega arith
 
-    pub held_back : (r ≡ 0 → ⊥) → Swept (length ws - 1) 0 (widest_in ws) a₁ b₁ a₂ b₂ → Forwarded N ws g ps xs a b r 0 a₂ b₂
-    held_back z t =
-        finish 0 [] (omega arith) (none (pass_refusal N ps ws xs) (outputs_of N ps ws xs)
-        (λ (q : pass_refusal N ps ws xs ≡ 0). z (done.refusal ∙ q))) refl refl t
+    pub held_back : (e : Refusal) → r ≡ Err e → Swept (length ws - 1) 0 (widest_in ws) a₁ b₁ a₂ b₂
+        → Forwarded N ws g ps xs a b e.number 0 a₂ b₂
+    held_back e z t =
+        rw z at (finish 0 [] (omega arith) (none (pass_refusal N ps ws xs) (outputs_of N ps ws xs)
+        (refused _ 0 e (sym done.refusal ∙ z))) refl refl t)
 
 -- ---- the part that `pick` hands back
 pub part_is : (N : Net) (ws : List ℕ) (g : Grid) (ps xs a b : List Float) (k n : ℕ) (a' b' : List Float)

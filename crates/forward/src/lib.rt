@@ -1,5 +1,5 @@
-// Public crate: one row, whose outputs are handed back as a part of the slice that holds them. It answers every argument, or
-// refuses by number.
+// Public crate: one row, whose outputs are handed back as a part of the slice that holds them. It takes all arguments
+// and answers, or refuses by number.
 #![tactic(auto)]
 
 ghost use Rattle.std.specs.Prelude.{◌≡◌, ◌++◌, ◌-◌, ◌≤◌, length, take, drop};
@@ -10,11 +10,13 @@ ghost use Rattle.floats.specs.Sums.{zeros};
 ghost use Rattle.layers.specs.Net.{net_of, Net};
 ghost use Rattle.passes.specs.Turns.{Fits};
 ghost use Rattle.forward.specs.Forward.{in_first, forward_first, forward_second, Handed};
-ghost use Rattle.forward.specs.Steps.{Passed, Swept, Forwarded};
+ghost use Rattle.refusals.specs.Refusals.{refusal_of};
+ghost use Rattle.forward.specs.Steps.{Passed, Swept, Forwarded, outputs_in};
 
 use admission::check_work;
-use config::Checked;
+use exponential::PowerTable;
 use layer_cursor::Layer;
+use refusals::{Refusal, refuse_unless};
 use spline::Grid;
 
 // 11, and then the row.
@@ -25,17 +27,15 @@ fn pass(
     row: &[f32],
     first: &mut [f32],
     second: &mut [f32],
-) -> u32
+) -> Result<(), Refusal>
     requires { Fits grid model.now widths.now first.old second.old }
     ensures { Passed (net_of grid) model.now widths.now row.now
         first.old second.old first.new second.new result }
 {
-    if floats::all_finite(model) {
-        let table = exponential::scaled_powers();
-        let start = Layer::first(widths, grid);
-        return passes::run_row(start, grid, &table, widths, model, row, first, second);
-    }
-    11
+    refuse_unless(floats::all_finite(model), 11)?;
+    let table = PowerTable::new();
+    let start = Layer::first(widths, grid);
+    passes::run_row(start, grid, &table, widths, model, row, first, second)
 }
 
 // +0.0 from `front` up to `widest`; what lies before and behind is untouched.
@@ -62,16 +62,42 @@ fn sweep_pass(layers: usize, n: usize, widest: usize, first: &mut [f32], second:
 }
 
 // Whether the last layer lies in the first slice. No widths count as one, which no call reaches.
+#[tactic(auto, unfolding(crate::specs::Forward::in_first))]
 fn lies_in_first(widths: &[usize]) -> bool
     ensures { result ≡ in_first widths.now }
 {
-    if widths.len() == 0 {
-        return false;
-    }
-    (widths.len() - 1) % 2 != 0
+    widths.len().saturating_sub(1) % 2 != 0
 }
 
-// All but the handing back: the number is lent, the answer is how many outputs there are.
+// All but the handing back: how many outputs there are.
+fn run(
+    widths: &[usize],
+    grid: Grid,
+    model: &[f32],
+    row: &[f32],
+    first: &mut [f32],
+    second: &mut [f32],
+) -> Result<usize, Refusal>
+    ensures { Forwarded (net_of grid) widths.now grid model.now row.now
+        first.old second.old (refusal_of result).number (outputs_in result) first.new second.new }
+{
+    let sizes = check_work(widths, grid, model.len(), first.len(), second.len())?;
+    let layers = widths.len() - 1;
+    match pass(grid, widths, model, row, first, second) {
+        Ok(()) => {
+            let n = widths[layers];
+            sweep_pass(layers, n, sizes.widest, first, second);
+            Ok(n)
+        }
+        Err(refusal) => {
+            sweep_pass(layers, 0, sizes.widest, first, second);
+            Err(refusal)
+        }
+    }
+}
+
+// The same as `forward` wants it, whose proof is a walk by hand for the sake of `finally`: the number lent, and 0
+// outputs where it refuses.
 fn work(
     number: &mut u32,
     widths: &[usize],
@@ -84,23 +110,13 @@ fn work(
     ensures { Forwarded (net_of grid) widths.now grid model.now row.now
         first.old second.old number.new result first.new second.new }
 {
-    let checked = check_work(widths, grid, model.len(), first.len(), second.len());
-    match checked {
-        Checked::Refused(refusal) => {
-            *number = refusal.number;
-            0
+    match run(widths, grid, model, row, first, second) {
+        Ok(n) => {
+            *number = 0;
+            n
         }
-        Checked::Sound(sizes) => {
-            let refused = pass(grid, widths, model, row, first, second);
-            *number = refused;
-            let layers = widths.len() - 1;
-            let widest = sizes.widest;
-            if refused == 0 {
-                let n = widths[layers];
-                sweep_pass(layers, n, widest, first, second);
-                return n;
-            }
-            sweep_pass(layers, 0, widest, first, second);
+        Err(refusal) => {
+            *number = refusal.number;
             0
         }
     }
@@ -108,7 +124,7 @@ fn work(
 
 // One row through all layers. The part handed back lies in front of the first slice or of the second, by the number of
 // layers, and is empty where the lent number says why. `finally` says what either slice holds once the part is given
-// up.
+// up. No `Result`: `Handed` says where the part lies also when the call refuses, and an `Err` would hand none back.
 pub fn forward<'a>(
     number: &mut u32,
     widths: &[usize],

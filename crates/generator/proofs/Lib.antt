@@ -1,4 +1,3 @@
-pub mod Halves
 pub mod Squares
 pub mod Once
 pub mod Range

@@ -26,30 +26,25 @@ pub struct Uniform {
     pub next: SplitMix64,
 }
 
-// Products of 32-bit halves fit a u64. That of the two high halves is a multiple of 2^64, and of the cross products' sum only the low
-// half stays below 2^64 once it is moved up.
 pub fn wrapping_mul(a: u64, b: u64) -> u64
     ensures { result ≡ (a * b) % 2 ^ 64 }
 {
-    let a_high = a >> 32;
-    let a_low = a % 4_294_967_296;
-    let b_high = b >> 32;
-    let b_low = b % 4_294_967_296;
-    let cross = std::num::wrapping_add_u64(a_high * b_low, a_low * b_high) % 4_294_967_296;
-    std::num::wrapping_add_u64(a_low * b_low, cross * 4_294_967_296)
+    a.wrapping_mul(b)
 }
 
 impl SplitMix64 {
+    #[tactic(auto, unfolding(crate::specs::Generator::seeded_of))]
     pub fn new(seed: u64) -> SplitMix64
         ensures { result ≡ seeded_of seed }
     {
         SplitMix64 { state: seed }
     }
 
+    #[tactic(auto, unfolding(crate::specs::Generator::draw_of))]
     pub fn next_u64(self) -> Draw
         ensures { result ≡ draw_of self }
     {
-        let state = std::num::wrapping_add_u64(self.state, 0x9e37_79b9_7f4a_7c15);
+        let state = self.state.wrapping_add(0x9e37_79b9_7f4a_7c15);
         let once = wrapping_mul(state ^ (state >> 30), 0xbf58_476d_1ce4_e5b9);
         let twice = wrapping_mul(once ^ (once >> 27), 0x94d0_49bb_1331_11eb);
         Draw {
@@ -59,6 +54,7 @@ impl SplitMix64 {
     }
 
     // 24 bits are exact in an f32, so that only the quotient and the two operations after it round.
+    #[tactic(auto, unfolding(crate::specs::Generator::uniform_of))]
     pub fn signed_uniform(self) -> Uniform
         ensures { result ≡ uniform_of self }
     {
@@ -72,21 +68,11 @@ impl SplitMix64 {
     }
 }
 
-// The whole part of the root of n, by bisection: the root of a u64 is below 2^32.
+#[tactic(auto, using(crate::proofs::Squares::whole_root_only))]
 fn whole_root(n: u64) -> u64
     ensures { result ≡ whole_root n }
 {
-    let mut low: u64 = 0;
-    let mut high: u64 = 4_294_967_296;
-    while low + 1 < high {
-        let mid = low + (high - low) / 2;
-        if mid * mid <= n {
-            low = mid;
-        } else {
-            high = mid;
-        }
-    }
-    low
+    n.isqrt()
 }
 
 // v / 2^25, rounded once: v has more digits than an f32, so two exact quotients meet in one rounded sum.
@@ -100,6 +86,7 @@ fn fraction(v: u64) -> f32
 }
 
 // With n times 2^48 the whole root has 24 more binary digits; the half added to it keeps it off every midpoint.
+#[tactic(auto, using(crate::proofs::Squares::whole_root_below, crate::proofs::Range::root_within, crate::proofs::Range::root_elsewhere))]
 pub fn root(n: usize) -> f32
     ensures { result ≡ root_of n }
 {

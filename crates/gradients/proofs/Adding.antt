@@ -7,6 +7,7 @@ use native.Mathlib.Numerals.{add-one}
 use native.Mathlib.Omega.{arith}
 use lib.ListN.{length, take, drop, set, length-append, length-drop, get_or-append}
 use lib.Seq.{get_or-append-add, get_or-drop, drop-drop, drop_at, take_at, set_split, drop-cons}
+use Rattle.std.proofs.lemmas.List.{drop_all, get_or-take, length-take-le}
 use lib.Ieee.{Float, nan}
 use borrow.Rule.Slice.PartMut.{put_mid}
 use Rattle.floats.specs.Binary32.{◌⊕◌}
@@ -29,6 +30,15 @@ pub plus_rest : (ds ys : List Float) → drop (length ys) (plus_of ds ys) ≡ dr
 unfolding plus_of
 plus_rest ds ys = drop_at (tabulate (plus_at ds ys) (length ys)) (drop (length ys) ds) (length ys)
     (tab_length _ (length ys))
+
+-- what is added to the front of ds alone
+pub plus_front : (ds ys : List Float) (n : ℕ) → length ys ≡ n → n ≤ length ds → plus_of (take n ds) ys ++ drop n ds ≡ plus_of ds ys
+unfolding plus_of
+plus_front ds ys n e h =
+    let whole : drop n (take n ds) ≡ [] = drop_all n (take n ds) (omega (arith, length-take-le n ds h)) in
+    let same : tabulate (plus_at (take n ds) ys) n ≡ tabulate (plus_at ds ys) n =
+    tab_ext _ _ n (λ k l. ap (λ (y : Float). y ⊕ at ys k) (get_or-take n ds k nan l)) in
+    rw (e, whole, append-nil, same)
 
 -- before the first cell, and before the first part
 pub plus_start : (f : ℕ → Float) (ds : List Float) → ds ≡ plus_of ds (tabulate f 0)

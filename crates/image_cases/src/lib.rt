@@ -6,13 +6,17 @@
 mod images;
 mod writer;
 
+use case_reading::Case;
+
 // A tag that is none of these agrees with nothing.
 pub fn agrees(tag: u8, words: &[u64]) -> bool {
-    match tag {
-        b'H' => images::describe_agrees(words),
-        b'J' => images::read_agrees(words),
-        b'Y' => images::unpack_agrees(words),
-        b'W' => writer::agrees(words),
-        _ => false,
-    }
+    let mut case = Case::new(words);
+    let met = match tag {
+        b'H' => images::describe(&mut case),
+        b'J' => images::read(&mut case),
+        b'Y' => images::unpack(&mut case),
+        b'W' => writer::write(&mut case),
+        _ => None,
+    };
+    met.is_some()
 }

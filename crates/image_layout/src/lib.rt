@@ -43,6 +43,7 @@ pub fn image_length(count: usize, parameters: usize) -> usize
     widths_distance(count) + 4 * parameters
 }
 
+#[tactic(auto, unfolding(crate::specs::Trailer::trailer_at))]
 fn grid_at(image: &[u8], at: usize) -> Grid
     requires { at + 32 ≤ length image.now }
     ensures { result ≡ (trailer_at image.now at).grid }
@@ -55,6 +56,7 @@ fn grid_at(image: &[u8], at: usize) -> Grid
 }
 
 // The trailer that begins at `at`.
+#[tactic(auto, unfolding(crate::specs::Trailer::trailer_at))]
 pub fn trailer_at(image: &[u8], at: usize) -> Trailer
     requires { at + 32 ≤ length image.now }
     ensures { TrailerRead image.now at result }
@@ -70,6 +72,7 @@ pub fn trailer_at(image: &[u8], at: usize) -> Trailer
 }
 
 // The words of the trailer of an image with `count` widths and `parameters` parameters.
+#[tactic(auto, using(words::proofs::Patterns::finite_number), unfolding(crate::specs::Trailer::trailer_words))]
 pub fn trailer_words(count: usize, parameters: usize, grid: Grid) -> [u32; 8]
     requires { TrailerWritable count parameters grid }
     ensures { result ≡ trailer_words count parameters grid }
@@ -79,8 +82,8 @@ pub fn trailer_words(count: usize, parameters: usize, grid: Grid) -> [u32; 8]
         widths_distance(count) as u32,
         count as u32,
         grid.intervals as u32,
-        f32::to_bits(grid.lo),
-        f32::to_bits(grid.hi),
+        grid.lo.to_bits(),
+        grid.hi.to_bits(),
         DEGREE as u32,
         VERSION as u32,
     ]

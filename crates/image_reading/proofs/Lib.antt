@@ -1,4 +1,4 @@
-pub mod Tests
+pub mod Chunks
 pub mod Answers
 pub mod Lengths
 pub mod Numbers

@@ -1,15 +1,14 @@
 -- R13.3 to R13.6: an image's checks in their order, what it describes, and the reader. Definitions only.
-use Rattle.std.specs.Prelude.{ℕ, zero, suc, ◌-◌, ◌*◌, ◌≡◌, cond, List, [], leb, eqb, length, take, Float}
+use Rattle.std.specs.Prelude.{ℕ, ◌-◌, ◌*◌, ◌≡◌, cond, List, [], leb, eqb, length, take, Float}
+use Rattle.std.specs.declared.result.Result.{Result}
 use Rattle.floats.specs.Sums.{all_finite}
 use Rattle.refusals.specs.declared.Refusal.{Refusal}
-use Rattle.refusals.specs.Refusals.{◌otherwise◌, ◌then◌, past, none}
+use Rattle.refusals.specs.Refusals.{◌otherwise◌, ◌then◌, past, answer_of}
 use Rattle.config.specs.Config.{parameters_for, config_fault, carried_by}
 use Rattle.words.specs.Words.{words_from, floats_in}
 use Rattle.image_layout.specs.declared.Trailer.{Trailer}
 use Rattle.image_layout.specs.Trailer.{trailer_length, widths_distance, image_length, trailer_at}
 use Rattle.image_reading.specs.declared.Description.{Description}
-use Rattle.image_reading.specs.declared.Described.{Described}
-use Rattle.image_reading.specs.declared.Described.TheVariants.{Sound, Refused}
 
 -- ---- R13.2, R13.3: what an image holds, by the trailer at its end: the K widths at their distance from the end, and P
 abbrev pub trailer_in : List ℕ → Trailer
@@ -59,17 +58,8 @@ description_in bs = record { grid = (trailer_in bs).grid; widths = (trailer_in b
 abbrev pub carried_in : ℕ → List ℕ → ℕ
 carried_in n bs = cond (eqb n 25) (trailer_in bs).version (carried_by n (total_in bs (trailer_in bs)))
 
-abbrev pub described_of : ℕ → ℕ → Description → Described
-described_of zero carried d = Sound d
-described_of (suc n) carried d = Refused (record { number = suc n; carried = carried })
-
-unfoldable pub describe_of : List ℕ → Described
-describe_of bs = described_of (describe_fault bs) (carried_in (describe_fault bs) bs) (description_in bs)
-
--- R3.2: the refusal that an answer is
-abbrev pub described_refusal : Described → Refusal
-described_refusal (Sound d) = none
-described_refusal (Refused r) = r
+unfoldable pub describe_of : List ℕ → Result Description Refusal
+describe_of bs = answer_of (describe_fault bs) (carried_in (describe_fault bs) bs) (description_in bs)
 
 -- R13.2, R13.6: the contents that a description stands for: the P parameters, and the widths behind them
 unfoldable pub widths_of : List ℕ → Description → List ℕ

@@ -1,4 +1,5 @@
 -- From the writer to the reader: each word that was written is read again. Assumes nothing.
+use Rattle.std.specs.Prelude.{Ok}
 use Prim.Native.Nat.{ℕ, ◌+◌, ◌-◌, ◌*◌, ◌^◌, ◌<◌}
 use native.Mathlib.Nat.{add-zero}
 use native.Mathlib.Omega.{arith}
@@ -24,7 +25,6 @@ use Rattle.words.proofs.Places.{skip, packed_at}
 use Rattle.image_layout.specs.declared.Trailer.{Trailer}
 use Rattle.image_layout.specs.Trailer.{widths_distance, image_length, trailer_at, trailer_words}
 use Rattle.image_layout.proofs.Lengths.{trailer_length_lem}
-use Rattle.image_reading.specs.declared.Described.TheVariants.{Sound}
 use Rattle.image_reading.specs.Image.{trailer_in, widths_in, total_in, description_in, describe_of}
 use Rattle.image_reading.specs.Stages.{description_by}
 use Rattle.image_reading.specs.Image.{widths_of, parameters_of}
@@ -150,14 +150,14 @@ module _ (ws : List ℕ) (g : Grid) (ps : List Float) (held : Held g ps) (w : In
       }
 
   describe_back : Past8 ws g (length ps) → config_fault ws g ≡ 0 → all_finite ps ≡ true
-      → describe_of (image_of ws g ps) ≡ Sound (description_for ws g ps)
+      → describe_of (image_of ws g ps) ≡ Ok (description_for ws g ps)
   unfolding describe_of
   describe_back p c f =
       let bs = image_of ws g ps in
       let none = sound_all bs (subst (PastEleven bs) (sym trailer_is) (accepted p c f)) in
       let found : description_in bs ≡ description_by (own_trailer ws g ps) (total_in bs (own_trailer ws g ps)) =
       ap (λ (t : Trailer). description_by t (total_in bs t)) trailer_is in
-      rw none (ap Sound (found ∙ ap (description_by (own_trailer ws g ps)) (total_is p)))
+      rw none (ap Ok (found ∙ ap (description_by (own_trailer ws g ps)) (total_is p)))
 
 -- ---- wherever the writer accepts
 pub read_back : (ws : List ℕ) (g : Grid) (ps : List Float) (n : ℕ) → Held g ps → write_fault ws g ps n ≡ 0

@@ -1,13 +1,12 @@
 -- R17.3: from the writer to the reader and back, bit for bit (R13.2): what the theorems of this crate say.
 -- Definitions only.
-use Rattle.std.specs.Prelude.{ℕ, ◌<◌, ◌≡◌, List, T, length, Float}
+use Rattle.std.specs.Prelude.{ℕ, ◌<◌, ◌≡◌, List, T, length, Float, Ok}
 use Rattle.std.specs.Float.{binary32}
 use Rattle.std.specs.Float.Ieee.{fits}
 use Rattle.floats.specs.Sums.{at}
 use Rattle.spline.specs.declared.Grid.{Grid}
 use Rattle.words.specs.Words.{Bytes}
 use Rattle.image_reading.specs.declared.Description.{Description}
-use Rattle.image_reading.specs.declared.Described.TheVariants.{Sound}
 use Rattle.image_reading.specs.Image.{describe_fault, description_in, describe_of, widths_of, parameters_of}
 use Rattle.image_writing.specs.Writing.{image_of, write_fault}
 
@@ -23,7 +22,7 @@ description_for ws g ps = record { grid = g; widths = length ws; parameters = le
 
 -- R17.3: the reader accepts the image of widths, a grid and parameters, and finds them in it
 pub record ReadBack (ws : List ℕ) (g : Grid) (ps : List Float) : Type 0 where
-  pub description : describe_of (image_of ws g ps) ≡ Sound (description_for ws g ps)
+  pub description : describe_of (image_of ws g ps) ≡ Ok (description_for ws g ps)
   pub widths : widths_of (image_of ws g ps) (description_for ws g ps) ≡ ws
   pub parameters : parameters_of (image_of ws g ps) (description_for ws g ps) ≡ ps
 

@@ -1,8 +1,7 @@
 -- R13.7: from an image to widths and a model: the reader's checks, then 10 where a lent slice has not room for exactly
 -- K widths or P parameters. Definitions only.
 use Rattle.std.specs.Prelude.{ℕ, ◌≡◌, ◌&&◌, List, eqb, length, Float}
-use Rattle.refusals.specs.declared.Outcome.{Outcome}
-use Rattle.refusals.specs.Refusals.{◌otherwise◌, ◌then◌, past, outcome_of}
+use Rattle.refusals.specs.Refusals.{◌otherwise◌, ◌then◌, past, Outcome, outcome_of}
 use Rattle.image_reading.specs.Image.{describe_fault, description_in, carried_in, widths_of, parameters_of}
 
 -- R13.7, R3.5: the refusal of a call that was lent room for so many widths and parameters

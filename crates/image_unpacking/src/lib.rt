@@ -5,30 +5,18 @@
 
 ghost use Rattle.image_unpacking.specs.Unpacking.{Unpacked};
 
-use image_reading::Described;
-use refusals::{Outcome, Refusal};
+use refusals::{Refusal, refuse_unless};
 
 // Refused as `describe` is; then 10, unless `widths` has K places and `model` P.
-pub fn unpack(image: &[u8], widths: &mut [usize], model: &mut [f32]) -> Outcome
+#[tactic(auto, using(image_reading::proofs::Parts::described, image_reading::proofs::Parts::undescribed, image_reading::proofs::Parts::described_room), unfolding(crate::specs::Unpacking::unpack_fault))]
+pub fn unpack(image: &[u8], widths: &mut [usize], model: &mut [f32]) -> Result<(), Refusal>
     ensures { Unpacked image.now widths.old model.old result
         widths.new model.new }
 {
-    let described = image_reading::describe(image);
-    match described {
-        Described::Refused(refusal) => Outcome::Refused(refusal),
-        Described::Sound(description) => {
-            if widths.len() == description.widths {
-                if model.len() == description.parameters {
-                    let from = 4 * description.parameters;
-                    words::take_sizes(image, from, widths);
-                    words::take_floats(image, model);
-                    return Outcome::Done;
-                }
-            }
-            Outcome::Refused(Refusal {
-                number: 10,
-                carried: 0,
-            })
-        }
-    }
+    let description = image_reading::describe(image)?;
+    refuse_unless(widths.len() == description.widths, 10)?;
+    refuse_unless(model.len() == description.parameters, 10)?;
+    words::take_sizes(image, 4 * description.parameters, widths);
+    words::take_floats(image, model);
+    Ok(())
 }

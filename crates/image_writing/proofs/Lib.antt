@@ -1,3 +1,2 @@
 pub mod Placed
-pub mod Calls
 pub mod Determined

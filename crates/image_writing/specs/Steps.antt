@@ -1,15 +1,10 @@
 -- What the writer's steps ask and promise: no part of the call's meaning. Definitions only.
 use Rattle.std.specs.Prelude.{ℕ, ◌^◌, ◌<◌, ◌≡◌, true, List, length, Float}
 use Rattle.floats.specs.Sums.{all_finite}
-use Rattle.refusals.specs.declared.Outcome.{Outcome}
-use Rattle.refusals.specs.declared.Outcome.TheVariants.{Refused}
 use Rattle.spline.specs.declared.Grid.{Grid}
 use Rattle.layers.specs.Widths.{width_at}
 use Rattle.image_layout.specs.Trailer.{image_length}
 use Rattle.image_layout.specs.Steps.{TrailerWritable}
-
-abbrev pub refused_by : ℕ → Outcome
-refused_by n = Refused (record { number = n; carried = 0 })
 
 -- each number of an image is a word of its own
 pub record InWords (ws : List ℕ) (g : Grid) (ps : List Float) : Type 0 where

@@ -1,8 +1,7 @@
 -- R13.8: what the writer writes, the parameters as bits, the widths and the trailer of R13.2. Definitions only.
 use Rattle.std.specs.Prelude.{ℕ, ◌≡◌, List, ◌++◌, eqb, length, Float}
 use Rattle.floats.specs.Sums.{all_finite}
-use Rattle.refusals.specs.declared.Outcome.{Outcome}
-use Rattle.refusals.specs.Refusals.{◌otherwise◌, ◌then◌, past, outcome_of}
+use Rattle.refusals.specs.Refusals.{◌otherwise◌, ◌then◌, past, Outcome, outcome_of}
 use Rattle.spline.specs.declared.Grid.{Grid}
 use Rattle.config.specs.Config.{parameters_for, carried_by}
 use Rattle.admission.specs.Admission.{up_to8}

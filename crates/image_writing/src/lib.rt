@@ -4,14 +4,14 @@
 
 ghost use Rattle.std.specs.Prelude.{◌≡◌};
 ghost use Rattle.image_writing.specs.Writing.{image_of, ImageWritten};
-ghost use Rattle.image_writing.specs.Steps.{refused_by, Writable};
+ghost use Rattle.image_writing.specs.Steps.{Writable};
 
 use admission::check_model;
-use config::Checked;
-use refusals::{Outcome, Refusal};
+use refusals::{Refusal, refuse_unless};
 use spline::Grid;
 
 // All bytes, from the front: the parameters, the widths, the trailer.
+#[tactic(auto, using(crate::proofs::Placed::placed))]
 fn put_image(widths: &[usize], grid: Grid, model: &[f32], image: &mut [u8])
     requires { Writable widths.now grid model.now image.old }
     ensures { image.new ≡ image_of widths.now grid model.now }
@@ -24,29 +24,16 @@ fn put_image(widths: &[usize], grid: Grid, model: &[f32], image: &mut [u8])
     words::put_words(&mut image[after_widths..], &last);
 }
 
-fn refused(number: u32) -> Outcome
-    ensures { result ≡ refused_by number }
-{
-    Outcome::Refused(Refusal { number, carried: 0 })
-}
-
 // Refused in the order configuration, 8, 10, 11, and then nothing is written.
-pub fn write(widths: &[usize], grid: Grid, model: &[f32], image: &mut [u8]) -> Outcome
+#[tactic(auto, using(config::proofs::Answers::accepted, config::proofs::Answers::rejected, admission::proofs::Passed::past8, crate::proofs::Placed::in_words), unfolding(crate::specs::Writing::write_fault))]
+pub fn write(widths: &[usize], grid: Grid, model: &[f32], image: &mut [u8]) -> Result<(), Refusal>
     ensures { ImageWritten widths.now grid model.now image.old result
         image.new }
 {
-    let checked = check_model(widths, grid, model.len());
-    match checked {
-        Checked::Refused(refusal) => Outcome::Refused(refusal),
-        Checked::Sound(_) => {
-            if image.len() != image_layout::image_length(widths.len(), model.len()) {
-                return refused(10);
-            }
-            if !floats::all_finite(model) {
-                return refused(11);
-            }
-            put_image(widths, grid, model, image);
-            Outcome::Done
-        }
-    }
+    check_model(widths, grid, model.len())?;
+    let length = image_layout::image_length(widths.len(), model.len());
+    refuse_unless(image.len() == length, 10)?;
+    refuse_unless(floats::all_finite(model), 11)?;
+    put_image(widths, grid, model, image);
+    Ok(())
 }

@@ -1,8 +1,7 @@
 -- R11.5: initialisation, which adds only 8 to the configuration's checks. The parameters themselves are those of
 -- `first_parameters`. Definitions only.
 use Rattle.std.specs.Prelude.{ℕ, ◌≡◌, List, length, Float}
-use Rattle.refusals.specs.declared.Outcome.{Outcome}
-use Rattle.refusals.specs.Refusals.{past, outcome_of}
+use Rattle.refusals.specs.Refusals.{past, Outcome, outcome_of}
 use Rattle.spline.specs.declared.Grid.{Grid}
 use Rattle.config.specs.Config.{parameters_for, carried_by}
 use Rattle.admission.specs.Admission.{up_to8}

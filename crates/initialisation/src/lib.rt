@@ -1,23 +1,19 @@
-// Public crate: the start of a model, its parameters drawn from a seed. It answers every argument, or refuses by number.
+// Public crate: the start of a model, its parameters drawn from a seed. It takes all arguments and answers, or refuses
+// by number.
 #![tactic(auto)]
 
 ghost use Rattle.initialisation.specs.Initialise.{Initialised};
 
 use admission::check_model;
-use config::Checked;
-use refusals::Outcome;
+use refusals::Refusal;
 use spline::Grid;
 
 // Fills the model from the seed; refused by the configuration or 8, it is left as it was.
-pub fn initialise(widths: &[usize], grid: Grid, seed: u64, model: &mut [f32]) -> Outcome
+#[tactic(auto, using(config::proofs::Answers::accepted, config::proofs::Answers::rejected, admission::proofs::Passed::past8, refusals::proofs::Firsts::past_stopped))]
+pub fn initialise(widths: &[usize], grid: Grid, seed: u64, model: &mut [f32]) -> Result<(), Refusal>
     ensures { Initialised widths.now grid seed model.old result model.new }
 {
-    let checked = check_model(widths, grid, model.len());
-    match checked {
-        Checked::Refused(refusal) => Outcome::Refused(refusal),
-        Checked::Sound(_) => {
-            first_parameters::initialise(widths, grid, seed, model);
-            Outcome::Done
-        }
-    }
+    check_model(widths, grid, model.len())?;
+    first_parameters::initialise(widths, grid, seed, model);
+    Ok(())
 }

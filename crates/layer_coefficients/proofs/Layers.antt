@@ -1,4 +1,5 @@
 -- A layer of an accepted configuration: none of its numbers is large, and it lies within the model. Assumes nothing.
+use Rattle.std.specs.Prelude.{Ok}
 use Prim.Native.Nat.{ℕ, ◌+◌, ◌-◌, ◌*◌, ◌≤◌, ◌<◌}
 use native.Mathlib.Nat.{le_trans, le_of_eq, mul_assoc, mul-pos}
 use native.Mathlib.Omega.{arith}
@@ -11,7 +12,6 @@ use Rattle.layers.specs.Widths.{width_at}
 use Rattle.layer_cursor.specs.declared.Layer.{Layer}
 use Rattle.layer_cursor.specs.Cursor.{Stands}
 use Rattle.layer_cursor.proofs.Cursors.{inside, widths_room}
-use Rattle.config.specs.declared.Checked.TheVariants.{Sound}
 use Rattle.config.specs.declared.Sizes.{Sizes}
 use Rattle.config.specs.Config.{sizes_of, checked_of}
 use Rattle.config.proofs.Answers.{accepted}
@@ -20,7 +20,7 @@ use Rattle.admission.proofs.Passed.{past8}
 use Rattle.layer_coefficients.specs.Steps.{Ready, SmallLayer}
 
 -- ---- past the checks up to 8
-pub passed : (ws : List ℕ) (g : Grid) (model : ℕ) (s : Sizes) → checked_of (up_to8 ws g model) (sizes_of ws g) ≡ Sound s
+pub passed : (ws : List ℕ) (g : Grid) (model : ℕ) (s : Sizes) → checked_of (up_to8 ws g model) (sizes_of ws g) ≡ Ok s
     → up_to8 ws g model ≡ 0
 passed ws g model s e = (accepted (up_to8 ws g model) (sizes_of ws g) s e).passed
 

@@ -23,7 +23,8 @@ pub fn find_layer(widths: &[usize], grid: Grid, layer: usize) -> Layer
     found
 }
 
-// The coefficients of so many edges as words, at the front of the bytes.
+// The coefficients of so many edges as words, at the front of the bytes. Edges are taken by place, here and below: after
+// `chunks_exact_mut` a proof knows no byte.
 pub fn put_coefficients(
     model: &[f32],
     from: usize,

@@ -9,7 +9,6 @@ use native.Mathlib.Omega.{arith}
 use lib.ListN.{length}
 use Rattle.spline.specs.declared.Grid.{Grid}
 use Rattle.floats.proofs.Loops.{row_room}
-use Rattle.local_basis.specs.Meshes.{mesh_of}
 use Rattle.layers.specs.Widths.{width_at, layer_size, params_to, widths_to}
 use Rattle.layers.proofs.Widths.{params_more, params_room}
 use Rattle.layer_cursor.specs.declared.Layer.{Layer}
@@ -82,9 +81,9 @@ back g ws c w a p h s v =
     let more : i + 1 ≡ c.index = omega arith in
     let below : i < length ws - 1 = omega arith in
     let b : Layer =
-    record { index = i; mesh = mesh_of g; at = params_to (g.intervals + 5) ws i; node = widths_to ws i; inputs = w; outputs = c.inputs } in
+    record { index = i; mesh = c.mesh; at = params_to (g.intervals + 5) ws i; node = widths_to ws i; inputs = w; outputs = c.inputs } in
     let wide : c.inputs ≡ width_at ws (i + 1) = s.inputs ∙ ap (width_at ws) (sym more) in
-    let t : Stands g ws i b = record { index = refl; mesh = refl; part = refl; nodes = refl; inputs = v; outputs = wide } in
+    let t : Stands g ws i b = record { index = refl; mesh = s.mesh; part = refl; nodes = refl; inputs = v; outputs = wide } in
     let e : b.at + b.outputs * (b.inputs * (g.intervals + 5)) ≡ c.at =
     step g ws i b t ∙ ap (params_to (g.intervals + 5) ws) more ∙ sym s.part in
     let m : b.node + b.inputs ≡ c.node = step_nodes g ws i b t ∙ ap (widths_to ws) more ∙ sym s.nodes in

@@ -23,27 +23,26 @@ pub struct Layer {
 fn width(widths: &[usize], l: usize) -> usize
     ensures { result ≡ width_at widths.now l }
 {
-    if l < widths.len() { widths[l] } else { 0 }
+    widths.get(l).copied().unwrap_or(0)
 }
 
 impl Layer {
+    #[tactic(auto, using(layers::proofs::Widths::params_none, crate::proofs::Cursors::widths_none))]
     pub fn first(widths: &[usize], grid: Grid) -> Layer
         requires { grid.intervals ≤ 250000 }
         ensures { Stands grid widths.now 0 result }
     {
-        let inputs = width(widths, 0);
-        let outputs = width(widths, 1);
-        let mesh = local_basis::mesh_of(grid);
         Layer {
             index: 0,
-            mesh,
+            mesh: local_basis::mesh_of(grid),
             at: 0,
             node: 0,
-            inputs,
-            outputs,
+            inputs: width(widths, 0),
+            outputs: width(widths, 1),
         }
     }
 
+    #[tactic(auto, using(crate::proofs::Cursors::small))]
     pub fn next(self, widths: &[usize], grid: Grid) -> Layer
         requires { Walkable grid widths.now × (self.index < length widths.now - 1)
             × Stands grid widths.now self.index self }
@@ -51,18 +50,13 @@ impl Layer {
     {
         let stride = grid.intervals + 5;
         let index = self.index + 1;
-        let at = self.at + self.outputs * (self.inputs * stride);
-        let node = self.node + self.inputs;
-        let after = index + 1;
-        let outputs = width(widths, after);
-        let mesh = self.mesh;
         Layer {
             index,
-            mesh,
-            at,
-            node,
+            mesh: self.mesh,
+            at: self.at + self.outputs * (self.inputs * stride),
+            node: self.node + self.inputs,
             inputs: self.outputs,
-            outputs,
+            outputs: width(widths, index + 1),
         }
     }
 
@@ -75,14 +69,11 @@ impl Layer {
         let stride = grid.intervals + 5;
         let index = self.index - 1;
         let inputs = width(widths, index);
-        let at = self.at - self.inputs * (inputs * stride);
-        let node = self.node - inputs;
-        let mesh = self.mesh;
         Layer {
             index,
-            mesh,
-            at,
-            node,
+            mesh: self.mesh,
+            at: self.at - self.inputs * (inputs * stride),
+            node: self.node - inputs,
             inputs,
             outputs: self.inputs,
         }

@@ -2,8 +2,6 @@
 // words agrees with nothing.
 #![tactic(auto)]
 
-ghost use Rattle.std.specs.Prelude.{◌≤◌, length};
-
 use generator::SplitMix64;
 use replay::{float_of, same_bits};
 use spline::Grid;
@@ -11,10 +9,10 @@ use spline::Grid;
 // A tag that is none of these agrees with nothing.
 pub fn agrees(tag: u8, words: &[u64]) -> bool {
     match tag {
-        b'E' => exponential_agrees(words),
-        b'S' => silu_agrees(words),
-        b'D' => silu_derivative_agrees(words),
-        b'R' => root_agrees(words),
+        b'E' => answer_agrees(words, |x| exponential::exponential(float_of(x))),
+        b'S' => answer_agrees(words, |x| spline::silu(float_of(x))),
+        b'D' => answer_agrees(words, |x| spline::silu_derivative(float_of(x))),
+        b'R' => answer_agrees(words, |n| generator::root(n as usize)),
         b'M' => draws_agree(words),
         b'U' => uniform_draws_agree(words),
         b'K' => knots_agree(words),
@@ -23,132 +21,88 @@ pub fn agrees(tag: u8, words: &[u64]) -> bool {
     }
 }
 
-// E x y
-fn exponential_agrees(words: &[u64]) -> bool {
-    if words.len() != 2 {
+// E x y, S x y, D x y, R n y
+fn answer_agrees<F: Fn(u64) -> f32>(words: &[u64], call: F) -> bool
+    requires { F.IsAlwaysCallable call }
+{
+    let [x, y] = *words else {
         return false;
-    }
-    same_bits(exponential::exponential(float_of(words[0])), words[1])
-}
-
-// S x y
-fn silu_agrees(words: &[u64]) -> bool {
-    if words.len() != 2 {
-        return false;
-    }
-    same_bits(spline::silu(float_of(words[0])), words[1])
-}
-
-// D x y
-fn silu_derivative_agrees(words: &[u64]) -> bool {
-    if words.len() != 2 {
-        return false;
-    }
-    same_bits(spline::silu_derivative(float_of(words[0])), words[1])
-}
-
-// R n y
-fn root_agrees(words: &[u64]) -> bool {
-    if words.len() != 2 {
-        return false;
-    }
-    same_bits(generator::root(words[0] as usize), words[1])
+    };
+    same_bits(call(x), y)
 }
 
 // M seed d0 d1 ..
 fn draws_agree(words: &[u64]) -> bool {
-    if words.len() < 2 {
+    let [seed, draws @ ..] = words else {
         return false;
-    }
-    let mut state = words[0];
-    let mut i = 1;
-    while i < words.len() {
-        let drawn = SplitMix64::new(state).next_u64();
-        if drawn.value != words[i] {
+    };
+    let mut generator = SplitMix64::new(*seed);
+    for draw in draws {
+        let drawn = generator.next_u64();
+        if drawn.value != *draw {
             return false;
         }
-        state = drawn.next.state;
-        i += 1;
+        generator = drawn.next;
     }
-    true
+    !draws.is_empty()
 }
 
 // U seed u0 u1 ..
 fn uniform_draws_agree(words: &[u64]) -> bool {
-    if words.len() < 2 {
+    let [seed, draws @ ..] = words else {
         return false;
-    }
-    let mut state = words[0];
-    let mut i = 1;
-    while i < words.len() {
-        let drawn = SplitMix64::new(state).signed_uniform();
-        if !same_bits(drawn.value, words[i]) {
+    };
+    let mut generator = SplitMix64::new(*seed);
+    for draw in draws {
+        let drawn = generator.signed_uniform();
+        if !same_bits(drawn.value, *draw) {
             return false;
         }
-        state = drawn.next.state;
-        i += 1;
+        generator = drawn.next;
     }
-    true
+    !draws.is_empty()
 }
 
-// The grid of a case that begins g lo hi.
-fn grid_of(words: &[u64]) -> Grid
-    requires { 3 ≤ length words.now }
-{
+fn grid_of(intervals: u64, lo: u64, hi: u64) -> Grid {
     Grid {
-        intervals: words[0] as usize,
-        lo: float_of(words[1]),
-        hi: float_of(words[2]),
+        intervals: intervals as usize,
+        lo: float_of(lo),
+        hi: float_of(hi),
     }
 }
 
 // K g lo hi k0 .. k(g+6)
 fn knots_agree(words: &[u64]) -> bool {
-    if words.len() < 3 {
+    let [intervals, lo, hi, knots @ ..] = words else {
+        return false;
+    };
+    let grid = grid_of(*intervals, *lo, *hi);
+    if 250_000 < grid.intervals || knots.len() != grid.intervals + 7 {
         return false;
     }
-    let grid = grid_of(words);
-    let intervals = grid.intervals;
-    if 250000 < intervals {
-        return false;
-    }
-    if words.len() != 3 + intervals + 7 {
-        return false;
-    }
-    let mut i = 0;
-    while i < intervals + 7 {
-        if !same_bits(spline::knot(grid, i), words[3 + i]) {
-            return false;
-        }
-        i += 1;
-    }
-    true
+    knots
+        .iter()
+        .enumerate()
+        .all(|(i, knot)| same_bits(spline::knot(grid, i), *knot))
 }
 
 // B g lo hi x v0 .. v(g+2) s0 .. s(g+2)
 fn basis_agrees(words: &[u64]) -> bool {
-    if words.len() < 4 {
+    let [intervals, lo, hi, x, basis @ ..] = words else {
+        return false;
+    };
+    let grid = grid_of(*intervals, *lo, *hi);
+    if 250_000 < grid.intervals {
         return false;
     }
-    let grid = grid_of(words);
-    let intervals = grid.intervals;
-    if 250000 < intervals {
+    let count = grid.intervals + 3;
+    if basis.len() != 2 * count {
         return false;
     }
-    let values = intervals + 3;
-    if words.len() != 4 + values + values {
-        return false;
-    }
-    let x = float_of(words[3]);
-    let mut i = 0;
-    while i < values {
-        if !same_bits(spline::basis_value(grid, i, x), words[4 + i]) {
-            return false;
-        }
-        if !same_bits(spline::basis_slope(grid, i, x), words[4 + values + i]) {
-            return false;
-        }
-        i += 1;
-    }
-    true
+    let x = float_of(*x);
+    let (values, slopes) = basis.split_at(count);
+    values.iter().zip(slopes).enumerate().all(|(i, (value, slope))| {
+        same_bits(spline::basis_value(grid, i, x), *value)
+            && same_bits(spline::basis_slope(grid, i, x), *slope)
+    })
 }

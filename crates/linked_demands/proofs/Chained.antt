@@ -1,14 +1,13 @@
 -- Joined batches, demand 3 over a chain and the start of `dot` reach through the C linkage: a chain of C functions is the chain of the
 -- calls that they stand for, and tells those calls' answers. Assumes nothing.
+use Rattle.std.specs.Prelude.{Ok}
 use Prim.Native.Nat.{ℕ}
 use mathlib.Core.Path.{◌≡◌, refl, sym, ap, ◌∙◌}
 use mathlib.Core.List.{List, [], ◌∷◌, map}
 use lib.ListN.{length}
 use lib.Ieee.{Float}
 use Rattle.floats.specs.Sums.{zeros}
-use Rattle.refusals.specs.declared.Outcome.{Outcome}
-use Rattle.refusals.specs.declared.Outcome.TheVariants.{Done}
-use Rattle.refusals.specs.Refusals.{outcome_refusal}
+use Rattle.refusals.specs.Refusals.{Outcome, refusal_of}
 use Rattle.spline.specs.declared.Grid.{Grid}
 use Rattle.layers.specs.Net.{Net, net_of}
 use Rattle.split_training.specs.Accumulating.{accumulate_fault, Accumulated}
@@ -22,12 +21,12 @@ use Rattle.linked_demands.proofs.Linked.{told_alike, told_done}
 
 -- what a C function tells of an answer
 abbrev told_of : Outcome → Told
-told_of r = ((outcome_refusal r).number, (outcome_refusal r).carried)
+told_of r = ((refusal_of r).number, (refusal_of r).carried)
 
 module _ (N : Net) (ws : List ℕ) (g : Grid) (ps : List Float) where
   -- a `kan_accumulate` that was told as 0 was not refused
   call_done : {xs ts : List Float} {total : ℕ} {gs W : List Float} {r : Outcome} {gs' W' : List Float}
-      → Accumulated N ws g ps xs ts total gs W r gs' W' → 0 ≡ (outcome_refusal r).number → r ≡ Done
+      → Accumulated N ws g ps xs ts total gs W r gs' W' → 0 ≡ (refusal_of r).number → r ≡ Ok tt
   call_done {xs} {ts} {total} {gs} {W} {r} call zero =
       told_done (accumulate_fault N ws g ps xs ts total gs W) _ r call.answer zero
 

@@ -4,7 +4,7 @@ use mathlib.Core.Path.{◌≡◌, sym, ap, ◌∙◌}
 use mathlib.Core.List.{List}
 use lib.ListN.{length}
 use lib.Ieee.{Float}
-use Rattle.refusals.specs.Refusals.{past, outcome_of, outcome_refusal}
+use Rattle.refusals.specs.Refusals.{past, outcome_of, refusal_of}
 use Rattle.refusals.proofs.Firsts.{not_refused}
 use Rattle.spline.specs.declared.Grid.{Grid}
 use Rattle.config.specs.Config.{parameters_for, carried_by}
@@ -19,7 +19,7 @@ use Rattle.linked_demands.proofs.Linked.{told_done}
 
 module _ (ws : List ℕ) (g : Grid) (l : ℕ) where
   -- a file that was told as written
-  written : (ps : List Float) (bs file : List ℕ) (n c : ℕ) → Linked outcome_refusal n c (λ o. NpyWritten ws g ps l bs o file)
+  written : (ps : List Float) (bs file : List ℕ) (n c : ℕ) → Linked refusal_of n c (λ o. NpyWritten ws g ps l bs o file)
       → n ≡ 0 → (write_fault ws g ps l bs ≡ 0) × (file ≡ file_of ws g ps l)
   written ps bs file n c w z =
       let call = w.call in
@@ -29,12 +29,12 @@ module _ (ws : List ℕ) (g : Grid) (l : ℕ) where
 
   -- and one that is read where no check refuses it
   taken : (qs : List Float) (file : List ℕ) (m d : ℕ) (qs' : List Float)
-      → Linked outcome_refusal m d (λ o. NpyRead ws g qs l file o qs') → read_fault ws g qs l file ≡ 0
+      → Linked refusal_of m d (λ o. NpyRead ws g qs l file o qs') → read_fault ws g qs l file ≡ 0
       → (m ≡ 0) × (qs' ≡ after_file ws g l qs file)
   taken qs file m d qs' r e =
       let call = r.call in
       let carried = carried_by (up_to37 ws g (length qs) l) (parameters_for ws g) in (
-        r.told.number ∙ ap (λ o. (outcome_refusal o).number) (call.answer ∙ ap (λ (f : ℕ). outcome_of f carried) e),
+        r.told.number ∙ ap (λ o. (refusal_of o).number) (call.answer ∙ ap (λ (f : ℕ). outcome_of f carried) e),
         call.model ∙ ap (λ (f : ℕ). past f (after_file ws g l qs file) qs) e,
       )
 

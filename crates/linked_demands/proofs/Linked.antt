@@ -1,13 +1,12 @@
 -- Demand 3, the start of `dot` and what a map shows reach through the C linkage: calls that answer alike are told alike. Assumes nothing.
+use Rattle.std.specs.Prelude.{Ok}
 use Prim.Native.Nat.{ℕ, zero, suc, ◌+◌}
 use native.Mathlib.Omega.{arith}
 use mathlib.Core.Path.{◌≡◌, sym, ap, ◌∙◌, subst}
 use mathlib.Core.List.{List}
 use lib.Ieee.{Float}
 use Rattle.refusals.specs.declared.Refusal.{Refusal}
-use Rattle.refusals.specs.declared.Outcome.{Outcome}
-use Rattle.refusals.specs.declared.Outcome.TheVariants.{Done}
-use Rattle.refusals.specs.Refusals.{outcome_of, outcome_refusal}
+use Rattle.refusals.specs.Refusals.{Outcome, outcome_of, refusal_of}
 use Rattle.spline.specs.declared.Grid.{Grid}
 use Rattle.layers.specs.Net.{Net, net_of}
 use Rattle.demands.specs.Silent.{Places, Differ}
@@ -24,12 +23,12 @@ use Rattle.linked_demands.specs.Linked.{SameLinked, SameKanPredict, SameKanLoss,
 use Rattle.linked_demands.specs.Linked.{LinkedDemand, LinkedHidden, LinkedUnmarked, LinkedDemands}
 
 -- the same answer has the same number, and carries the same
-pub told_alike : {A : Type 0} {refusal_of : A → Refusal} {P Q : A → Type 0} {Rest : Type 0}
-    → ((x y : A) → P x → Q y → (x ≡ y) × Rest) → SameLinked refusal_of P Q Rest
-told_alike {refusal_of = refusal_of} same r s c d p q =
+pub told_alike : {A : Type 0} {refusal : A → Refusal} {P Q : A → Type 0} {Rest : Type 0}
+    → ((x y : A) → P x → Q y → (x ≡ y) × Rest) → SameLinked refusal P Q Rest
+told_alike {refusal = refusal} same r s c d p q =
     let both = same p.answer q.answer p.call q.call in (
-      p.told.number ∙ ap (λ x. (refusal_of x).number) both.0 ∙ sym q.told.number,
-      p.told.carried ∙ ap (λ x. (refusal_of x).carried) both.0 ∙ sym q.told.carried,
+      p.told.number ∙ ap (λ x. (refusal x).number) both.0 ∙ sym q.told.number,
+      p.told.carried ∙ ap (λ x. (refusal x).carried) both.0 ∙ sym q.told.carried,
       both.1,
     )
 
@@ -79,14 +78,14 @@ linked_hidden ws g ps xs =
     }
 
 -- a call that was told as 0 was not refused
-pub told_done : (n c : ℕ) (r : Outcome) → r ≡ outcome_of n c → 0 ≡ (outcome_refusal r).number → r ≡ Done
+pub told_done : (n c : ℕ) (r : Outcome) → r ≡ outcome_of n c → 0 ≡ (refusal_of r).number → r ≡ Ok tt
 told_done zero c r e z = e
 told_done (suc n) c r e z =
-    let z : ◌≡◌ {A = ℕ} 0 (suc n) = z ∙ ap (λ (o : Outcome). (outcome_refusal o).number) e in absurd (omega arith)
+    let z : ◌≡◌ {A = ℕ} 0 (suc n) = z ∙ ap (λ (o : Outcome). (refusal_of o).number) e in absurd (omega arith)
 
 module _ (ws : List ℕ) (g : Grid) (ps xs a b : List Float) (ms : List ℕ) (a' b' : List Float) (ms' : List ℕ) (c : ℕ)
-    (v : Linked outcome_refusal 0 c (λ o. Visited (net_of g) ws g ps xs a b ms o a' b' ms')) where
-  accepted : Visited (net_of g) ws g ps xs a b ms Done a' b' ms'
+    (v : Linked refusal_of 0 c (λ o. Visited (net_of g) ws g ps xs a b ms o a' b' ms')) where
+  accepted : Visited (net_of g) ws g ps xs a b ms (Ok tt) a' b' ms'
   accepted =
       subst (λ (o : Outcome). Visited (net_of g) ws g ps xs a b ms o a' b' ms')
       (told_done (visit_refusal (net_of g) ws g ps xs a b ms) (visit_carried (net_of g) ws g ps xs a b ms) v.answer v.call.answer

@@ -2,7 +2,7 @@
 -- numbers, and all that was lent. Definitions only.
 use Rattle.std.specs.Prelude.{ℕ, ◌≡◌, true, List, length, Float}
 use Rattle.floats.specs.Sums.{at, all_finite}
-use Rattle.refusals.specs.Refusals.{outcome_refusal}
+use Rattle.refusals.specs.Refusals.{refusal_of}
 use Rattle.spline.specs.declared.Grid.{Grid}
 use Rattle.npy_writing.specs.Writing.{NpyWritten}
 use Rattle.npy_reading.specs.Reader.{NpyRead}
@@ -18,6 +18,6 @@ pub record Exchanged (ws : List ℕ) (g : Grid) (l : ℕ) (ps qs : List Float) (
 pub record LinkedExchange : Type 0 where
   -- wherever `kan_npy_write` answers 0, for any sound model of the configuration
   pub read_back : (ws : List ℕ) (g : Grid) (l : ℕ) (ps qs : List Float) (bs file : List ℕ) (n c : ℕ)
-      → Linked outcome_refusal n c (λ o. NpyWritten ws g ps l bs o file) → n ≡ 0 → Held ps → length qs ≡ length ps
-      → all_finite qs ≡ true → (m d : ℕ) (qs' : List Float) → Linked outcome_refusal m d (λ o. NpyRead ws g qs l file o qs')
+      → Linked refusal_of n c (λ o. NpyWritten ws g ps l bs o file) → n ≡ 0 → Held ps → length qs ≡ length ps
+      → all_finite qs ≡ true → (m d : ℕ) (qs' : List Float) → Linked refusal_of m d (λ o. NpyRead ws g qs l file o qs')
       → Exchanged ws g l ps qs m qs'

@@ -2,11 +2,11 @@
 -- `carried`, and all that was lent. Definitions only.
 use Rattle.std.specs.Prelude.{ℕ, ◌+◌, ◌≡◌, List, Float}
 use Rattle.refusals.specs.declared.Refusal.{Refusal}
-use Rattle.refusals.specs.Refusals.{outcome_refusal}
+use Rattle.refusals.specs.Refusals.{refusal_of}
 use Rattle.spline.specs.declared.Grid.{Grid}
 use Rattle.layers.specs.Net.{Net, net_of}
 use Rattle.prediction.specs.Predict.{up_to11, Predicted}
-use Rattle.loss.specs.Loss.{up_to18, loss_refusal, Lost}
+use Rattle.loss.specs.Loss.{up_to18, Lost}
 use Rattle.visit_map.specs.Visits.{Visited}
 use Rattle.training.specs.Train.{up_to19, training_refusal, steps_done, Stepped, Trained}
 use Rattle.demands.specs.Silent.{Places, Differ}
@@ -18,27 +18,27 @@ use Rattle.estimator.specs.Linkage.{Linked, mean_or}
 
 -- two C functions that did what P and Q say answer the same number, carry the same, and leave memory as Rest says
 abbrev pub SameLinked : {A : Type 0} → (A → Refusal) → (A → Type 0) → (A → Type 0) → Type 0 → Type 0
-SameLinked refusal_of P Q Rest = (r s c d : ℕ) → Linked refusal_of r c P → Linked refusal_of s d Q → (r ≡ s) × (c ≡ d) × Rest
+SameLinked refusal P Q Rest = (r s c d : ℕ) → Linked refusal r c P → Linked refusal s d Q → (r ≡ s) × (c ≡ d) × Rest
 
 -- ---- the same call on the network N with the model ps, and on M with qs
 module _ (N M : Net) (ws : List ℕ) (g : Grid) (ps qs xs : List Float) where
   abbrev pub SameKanPredict : List Float → List Float → List Float → Type 0
   SameKanPredict a b ys =
       (a' b' ys' a'' b'' ys'' : List Float)
-      → SameLinked outcome_refusal (λ o. Predicted N ws g ps xs a b ys o a' b' ys') (λ o. Predicted M ws g qs xs a b ys o a'' b'' ys'')
+      → SameLinked refusal_of (λ o. Predicted N ws g ps xs a b ys o a' b' ys') (λ o. Predicted M ws g qs xs a b ys o a'' b'' ys'')
       ((ys' ≡ ys'') × (a' ≡ a'') × (b' ≡ b''))
 
   abbrev pub SameKanLoss : List Float → List Float → List Float → Float → Type 0
   SameKanLoss ts a b lent =
       (a' b' a'' b'' : List Float) (l' l'' : Float)
-      → SameLinked loss_refusal (λ o. Lost N ws g ps xs ts a b o a' b' × (l' ≡ mean_or o lent))
+      → SameLinked refusal_of (λ o. Lost N ws g ps xs ts a b o a' b' × (l' ≡ mean_or o lent))
       (λ o. Lost M ws g qs xs ts a b o a'' b'' × (l'' ≡ mean_or o lent)) ((l' ≡ l'') × (a' ≡ a'') × (b' ≡ b''))
 
   module _ (Left : List Float → List Float → Type 0) (ts : List Float) (rate : Float) (gs W : List Float) where
     abbrev pub SameKanStep : Type 0
     SameKanStep =
         (ps' gs' W' qs' gs'' W'' : List Float)
-        → SameLinked outcome_refusal (λ o. Stepped N ws g ps xs ts rate gs W o ps' gs' W')
+        → SameLinked refusal_of (λ o. Stepped N ws g ps xs ts rate gs W o ps' gs' W')
         (λ o. Stepped M ws g qs xs ts rate gs W o qs' gs'' W'') (Left ps' qs' × (gs' ≡ gs'') × (W' ≡ W''))
 
     abbrev pub SameKanTrain : ℕ → Type 0
@@ -83,6 +83,6 @@ pub record LinkedDemands : Type 0 where
   pub start : (ws : List ℕ) (g : Grid) (ps xs : List Float) → LinkedHidden (net_of g) (from_minus_zero g) ws g ps xs
   -- after a `kan_visits` that answered 0
   pub map : (ws : List ℕ) (g : Grid) (ps xs a b : List Float) (ms : List ℕ) (a' b' : List Float) (ms' : List ℕ) (c : ℕ)
-      → Linked outcome_refusal 0 c (λ o. Visited (net_of g) ws g ps xs a b ms o a' b' ms')
+      → Linked refusal_of 0 c (λ o. Visited (net_of g) ws g ps xs a b ms o a' b' ms')
       → (qs : List Float) → Differ (g.intervals + 5) (unmarked (g.intervals + 5) ms') ps qs
       → LinkedUnmarked (net_of g) ws g ps xs ms' qs

@@ -1,4 +1,5 @@
 -- What an accepted image's lines may ask of it, and the listing case by case. Assumes nothing.
+use Rattle.std.specs.Prelude.{Err, Ok}
 use Prim.Native.Nat.{ℕ, zero, suc, ◌+◌, ◌-◌, ◌*◌, ◌≤◌, ◌<◌}
 use native.Mathlib.Omega.{arith}
 use mathlib.Core.Path.{◌≡◌, refl, sym, ap, subst}
@@ -12,7 +13,6 @@ use Rattle.config.proofs.Sized.{layer_room}
 use Rattle.words.specs.Words.{words_from}
 use Rattle.words.proofs.Tables.{words_length}
 use Rattle.image_reading.specs.declared.Description.{Description}
-use Rattle.image_reading.specs.declared.Described.TheVariants.{Sound, Refused}
 use Rattle.image_reading.specs.Image.{trailer_in, widths_in, total_in, describe_fault, description_in, describe_of, widths_of}
 use Rattle.image_reading.proofs.Passed.{PastLength, size, past_eleven}
 use Rattle.image_reading.proofs.Parts.{described, undescribed, described_room}
@@ -44,7 +44,7 @@ listable_of bs a =
       outer = outer;
     }
 
-module _ (bs : List ℕ) (d : Description) (e : describe_of bs ≡ Sound d) where
+module _ (bs : List ℕ) (d : Description) (e : describe_of bs ≡ Ok d) where
   pub listable : Listable bs d
   listable =
       let a = described bs d e in
@@ -68,14 +68,14 @@ module _ (bs : List ℕ) where
   unfolding list_fault
   described_alone l = rw (le-leb (length bs) 65536 l)
 
-  pub list_refused : (r : Refusal) → length bs ≤ 65536 → describe_of bs ≡ Refused r
+  pub list_refused : (r : Refusal) → length bs ≤ 65536 → describe_of bs ≡ Err r
       → labelled_line refused_label r.number ≡ listing_of bs
   unfolding listing_of
   list_refused r l e =
       let a = undescribed bs r e in
       rw (described_alone l, a.number) (refused_text (describe_fault bs) bs a.stopped)
 
-  pub list_sound : (d : Description) → length bs ≤ 65536 → describe_of bs ≡ Sound d → sound_text bs d ≡ listing_of bs
+  pub list_sound : (d : Description) → length bs ≤ 65536 → describe_of bs ≡ Ok d → sound_text bs d ≡ listing_of bs
   unfolding listing_of
   list_sound d l e =
       let a = described bs d e in

@@ -6,7 +6,7 @@ ghost use Rattle.text.specs.Appended.{Appended, AppendedWithin};
 ghost use Rattle.listing.specs.Listing.{grid_line, layer_text, layers_text, sound_text, listing_of};
 ghost use Rattle.listing.specs.Steps.{FiniteEnds, Listable};
 
-use image_reading::{Described, Description};
+use image_reading::Description;
 use spline::Grid;
 use text::{append, append_labelled, append_number, append_pattern};
 
@@ -19,8 +19,8 @@ fn grid_line(out: &mut [u8], at: usize, grid: Grid) -> usize
 {
     let labelled = append(out, at, b"grid ");
     let counted = append_number(out, labelled, grid.intervals, b' ');
-    let lower = append_pattern(out, counted, f32::to_bits(grid.lo), b' ');
-    append_pattern(out, lower, f32::to_bits(grid.hi), b'\n')
+    let lower = append_pattern(out, counted, grid.lo.to_bits(), b' ');
+    append_pattern(out, lower, grid.hi.to_bits(), b'\n')
 }
 
 // Layer l, from its number, its two widths and its parameters.
@@ -43,7 +43,8 @@ fn layer_line(
     append_number(out, fanned, parameters, b'\n')
 }
 
-// One line for each layer; the widths follow the parameters.
+// One line for each layer; the widths follow the parameters. The loop counts, for a line shows its layer's number, and
+// that number says where the layer's two widths are: pairs of chunks would be no plainer.
 fn layer_lines(out: &mut [u8], at: usize, image: &[u8], description: Description) -> usize
     requires { (at + 90 * description.widths ≤ length out.old) × Listable image.now description }
     ensures { AppendedWithin (90 * description.widths) out.old at
@@ -51,8 +52,7 @@ fn layer_lines(out: &mut [u8], at: usize, image: &[u8], description: Description
 {
     let layers = description.widths - 1;
     let from = 4 * description.parameters;
-    let grid = description.grid;
-    let each = grid.intervals + 5;
+    let each = description.grid.intervals + 5;
     let mut next = at;
     for layer in 0..layers {
         let place = from + layer * 4;
@@ -68,8 +68,7 @@ fn render_sound(out: &mut [u8], image: &[u8], description: Description) -> usize
     requires { (71 + 90 * description.widths ≤ length out.old) × Listable image.now description }
     ensures { Appended out.old 0 (sound_text image.now description) out.new result }
 {
-    let grid = description.grid;
-    let after_grid = grid_line(out, 0, grid);
+    let after_grid = grid_line(out, 0, description.grid);
     let after_layers = layer_lines(out, after_grid, image, description);
     append_labelled(out, after_layers, b"total ", description.parameters)
 }
@@ -89,14 +88,8 @@ pub fn render(out: &mut [u8], image: &[u8]) -> usize
     if image.len() > MOST_BYTES {
         return append_labelled(out, 0, b"refused ", 24);
     }
-    let described = image_reading::describe(image);
-    match described {
-        Described::Refused(refusal) => append_labelled(
-            out,
-            0,
-            b"refused ",
-            refusal.number as usize,
-        ),
-        Described::Sound(description) => render_sound(out, image, description),
+    match image_reading::describe(image) {
+        Ok(description) => render_sound(out, image, description),
+        Err(refusal) => append_labelled(out, 0, b"refused ", refusal.number as usize),
     }
 }

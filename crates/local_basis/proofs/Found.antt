@@ -5,7 +5,7 @@ use native.Mathlib.Nat.{le_refl}
 use native.Mathlib.Omega.{arith}
 use mathlib.Core.Bool.{Bool, true, false, cond, true≢false}
 use lib.Dec.{T}
-use lib.Ieee.{Float, nan, inf, fin, le, lt, eq, is_nan}
+use lib.Ieee.{Float, le, lt, eq}
 use lib.Ieee.Bits.{is_true}
 use lib.Ieee.Scale.{finite}
 use Rattle.floats.specs.Binary32.{zero32}
@@ -16,12 +16,6 @@ use Rattle.spline.specs.Spline.{knot_of, cox_of, outside_of, value_of}
 use Rattle.local_basis.specs.Meshes.{calm_of, Holds}
 use Rattle.local_basis.proofs.Knots.{knot_finite, knot_mono}
 use Rattle.local_basis.proofs.Apart.{Inside}
-
-pub lt_real : (q c : Float) → lt q c ≡ true → is_nan q ≡ false
-unfolding lt is_nan
-lt_real nan c e = sym e
-lt_real (inf s) c e = refl
-lt_real (fin s m e) c h = refl
 
 pub yes : {b : Bool} → b ≡ true → T b
 yes e = subst T (sym e) tt

@@ -1,62 +1,37 @@
 -- Four numbers moved one place at a time. Assumes nothing.
 use mathlib.Core.Path.{◌≡◌, refl, sym, ap, ◌∙◌}
-use Prim.Native.Nat.{ℕ, zero, suc, ◌+◌, ◌-◌, ◌≤◌}
+use Prim.Native.Nat.{ℕ, zero, suc, ◌+◌, ◌-◌}
 use native.Mathlib.Omega.{arith}
+use native.Mathlib.Nat.{suc-add}
+use Rattle.floats.specs.Binary32.{zero32}
 use Rattle.local_basis.specs.declared.Four.{Four}
 use Rattle.local_basis.specs.Fours.{down_by, up_by, placed_of}
 
-module _ (s : Four) where
-  pub down_1 : (n : ℕ) (r : Four) → n ≡ 1 → r ≡ down_by 1 s → r ≡ down_by n s
-  down_1 n r e p = p ∙ ap (λ (k : ℕ). down_by k s) (sym e)
-
-  pub down_2 : (n : ℕ) (q r : Four) → n ≡ 2 → q ≡ down_by 1 s → r ≡ down_by 1 q → r ≡ down_by n s
-  unfolding down_by
-  down_2 n q r e p o = o ∙ ap (λ (f : Four). down_by 1 f) p ∙ ap (λ (k : ℕ). down_by k s) (sym e)
-
-  pub up_1 : (n : ℕ) (r : Four) → n ≡ 1 → r ≡ up_by 1 s → r ≡ up_by n s
-  up_1 n r e p = p ∙ ap (λ (k : ℕ). up_by k s) (sym e)
-
-  pub up_2 : (n : ℕ) (q r : Four) → n ≡ 2 → q ≡ up_by 1 s → r ≡ up_by 1 q → r ≡ up_by n s
-  unfolding up_by
-  up_2 n q r e p o = o ∙ ap (λ (f : Four). up_by 1 f) p ∙ ap (λ (k : ℕ). up_by k s) (sym e)
-
-  -- how many places are left below the four
-  pub up_start : (r : Four) → r ≡ up_by 1 s → r.start ≡ s.start - 1
-  unfolding up_by
-  up_start r p = rw p refl
-
-pub down_3 : (s : Four) (n : ℕ) (p q r : Four) → n ≡ 3 → p ≡ down_by 1 s → q ≡ down_by 1 p → r ≡ down_by 1 q
-    → r ≡ down_by n s
+-- one place more
+pub down_more : (n : ℕ) (s : Four) → down_by 1 (down_by n s) ≡ down_by (n + 1) s
 unfolding down_by
-down_3 s n p q r e a b c = c ∙ ap (λ (f : Four). down_by 1 f) (down_2 s 2 p q refl a b)
-    ∙ ap (λ (k : ℕ). down_by k s) (sym e)
+down_more zero s = refl
+down_more (suc n) s = down_more n _ ∙ ap (λ (k : ℕ). down_by k s) (sym (suc-add n 1))
 
-pub up_3 : (s : Four) (n : ℕ) (p q r : Four) → n ≡ 3 → p ≡ up_by 1 s → q ≡ up_by 1 p → r ≡ up_by 1 q → r ≡ up_by n s
+pub up_more : (n : ℕ) (s : Four) → up_by 1 (up_by n s) ≡ up_by (n + 1) s
 unfolding up_by
-up_3 s n p q r e a b c = c ∙ ap (λ (f : Four). up_by 1 f) (up_2 s 2 p q refl a b) ∙ ap (λ (k : ℕ). up_by k s) (sym e)
+up_more zero s = refl
+up_more (suc n) s = up_more n _ ∙ ap (λ (k : ℕ). up_by k s) (sym (suc-add n 1))
 
-module _ (g a : ℕ) (s : Four) where
-  -- near the first knot, near the last, and between
-  pub placed_down : (r : Four) → a ≤ 2 → r ≡ down_by (3 - a) s → r ≡ placed_of g a s
-  unfolding up_by
-  placed_down r h p = p ∙ ap (λ (u : ℕ). up_by u (down_by (3 - a) s)) (sym none)
-    where
-      none : a - (g + 2) ≡ 0
-      none = omega arith
+-- how many places are left below the four
+pub up_start : (n : ℕ) (s : Four) → (up_by n s).start ≡ s.start - n
+unfolding up_by
+up_start zero s = omega arith
+up_start (suc n) s = omega (arith, up_start n (record { start = s.start - 1; first = zero32; second = s.first; third = s.second; fourth = s.third }))
 
-  pub placed_up : (r : Four) → 3 ≤ a → r ≡ up_by (a - (g + 2)) s → r ≡ placed_of g a s
-  unfolding down_by
-  placed_up r h p = p ∙ ap (λ (d : ℕ). up_by (a - (g + 2)) (down_by d s)) (sym none)
-    where
-      none : 3 - a ≡ 0
-      none = omega arith
+-- no place
+pub down_none : (n : ℕ) (s : Four) → n ≡ 0 → down_by n s ≡ s
+unfolding down_by
+down_none n s e = ap (λ (k : ℕ). down_by k s) e
 
-  pub placed_there : 3 ≤ a → a ≤ g + 2 → s ≡ placed_of g a s
-  unfolding up_by
-  placed_there h l = placed_up s h (ap (λ (u : ℕ). up_by u s) (sym none))
-    where
-      none : a - (g + 2) ≡ 0
-      none = omega arith
+pub up_none : (n : ℕ) (s : Four) → n ≡ 0 → up_by n s ≡ s
+unfolding up_by
+up_none n s e = ap (λ (k : ℕ). up_by k s) e
 
 -- ---- where four begin does not depend on what they are
 down_together : (n : ℕ) (r s : Four) → r.start ≡ s.start → (down_by n r).start ≡ (down_by n s).start

@@ -6,27 +6,20 @@ use Rattle.std.specs.Float.Ieee.Scale.{finite}
 use Rattle.floats.specs.Binary32.{◌⊖◌, zero32}
 use Rattle.spline.specs.declared.Grid.{Grid}
 use Rattle.spline.specs.Spline.{width_of, knot_of, outside_of}
-use Rattle.local_basis.specs.declared.Mesh.{Mesh}
 
 -- the width is above zero and the span of the knots is finite: then so is every difference among knots and inputs
 unfoldable pub calm_of : Grid → Bool
 calm_of g = cond (lt zero32 (width_of g)) (finite (knot_of g (g.intervals + 6) ⊖ knot_of g 0)) false
 
-abbrev pub mesh_of : Grid → Mesh
-mesh_of g = record { grid = g; width = width_of g; calm = calm_of g }
-
 -- from plain numbers
 abbrev pub grid_by : ℕ → Float → Float → Grid
 grid_by intervals lo hi = record { intervals = intervals; lo = lo; hi = hi }
 
-abbrev pub mesh_by : ℕ → Float → Float → Float → Bool → Mesh
-mesh_by intervals lo hi width calm = record { grid = grid_by intervals lo hi; width = width; calm = calm }
-
--- a mesh of a grid that the library accepts
-pub record Meshed (m : Mesh) : Type 0 where
-  pub intervals : m.grid.intervals ≤ 250000
-  pub width : m.width ≡ width_of m.grid
-  pub calm : m.calm ≡ calm_of m.grid
+-- what a mesh holds beside its grid, which is one that the library accepts
+pub record Meshed (g : Grid) (width : Float) (calm : Bool) : Type 0 where
+  pub few : g.intervals ≤ 250000
+  pub own_width : width ≡ width_of g
+  pub own_calm : calm ≡ calm_of g
 
 -- the interval that holds x
 pub record Holds (g : Grid) (x : Float) (at : ℕ) : Type 0 where

@@ -1,6 +1,6 @@
 // The four cubic basis values, the four slopes, or both, that can be other than zero at an input.
 ghost use Rattle.std.specs.Prelude.{◌≡◌, true};
-ghost use Rattle.local_basis.specs.Meshes.{Meshed, grid_by, mesh_by};
+ghost use Rattle.local_basis.specs.Meshes.{Meshed, grid_by};
 ghost use Rattle.local_basis.specs.Fours.{no_four, Values, Slopes, Both};
 
 use crate::place::placed;
@@ -22,12 +22,14 @@ fn no_four() -> Four
     }
 }
 
-// The values on the mesh of these numbers. A mesh that is handed to a function is stored as a copy, field by field, and the
-// copy read 16 bytes at a time, a read that waits until those stores are through: a row of a network of one edge took 77 ns,
-// and takes 52 with the numbers handed over. `values_at` and `fast_forward` both call this. Called by `values_at` alone it
-// would be compiled into that, which would be too long to be compiled into its callers, and they would store the copy.
+// The values on the mesh of these numbers. A mesh that is handed to a function is stored as a copy, field by field, and
+// the copy read 16 bytes at a time, a read that waits until those stores are through: a row of a network of one edge takes
+// 77 ns so, and 52 with the numbers handed over. `values_at` and `fast_forward` both call this. Called by `values_at`
+// alone it would be compiled into that, which would be too long to be compiled into its callers, and they would store the
+// copy.
+#[tactic(auto, using(crate::proofs::Standing::may_place, crate::proofs::Squares::cubes_start))]
 pub fn values_by(intervals: usize, lo: f32, hi: f32, width: f32, x: f32) -> Four
-    requires { Meshed (mesh_by intervals lo hi width true) }
+    requires { Meshed (grid_by intervals lo hi) width true }
     ensures { Values (grid_by intervals lo hi) x result }
 {
     let grid = Grid { intervals, lo, hi };
@@ -43,8 +45,9 @@ pub fn values_by(intervals: usize, lo: f32, hi: f32, width: f32, x: f32) -> Four
     placed(intervals, at, cubes(squares_of(mesh, x, at), x, at))
 }
 
+#[tactic(auto, using(crate::proofs::Meshes::by_numbers))]
 pub fn values_at(mesh: Mesh, x: f32) -> Four
-    requires { Meshed mesh × (mesh.calm ≡ true) }
+    requires { mesh.calm ≡ true }
     ensures { Values mesh.grid x result }
 {
     values_by(
@@ -56,8 +59,9 @@ pub fn values_at(mesh: Mesh, x: f32) -> Four
     )
 }
 
+#[tactic(auto, using(crate::proofs::Standing::may_place, crate::proofs::Squares::rises_start))]
 pub fn slopes_at(mesh: Mesh, x: f32) -> Four
-    requires { Meshed mesh × (mesh.calm ≡ true) }
+    requires { mesh.calm ≡ true }
     ensures { Slopes mesh.grid x result }
 {
     let at = interval(mesh, x);
@@ -78,8 +82,9 @@ fn no_eight() -> Eight
 }
 
 // Both by one search and one triangle.
+#[tactic(auto, using(crate::proofs::Standing::may_place, crate::proofs::Squares::cubes_start, crate::proofs::Squares::rises_start, crate::proofs::Meshes::calm_grid))]
 pub fn both_at(mesh: Mesh, x: f32) -> Eight
-    requires { Meshed mesh × (mesh.calm ≡ true) }
+    requires { mesh.calm ≡ true }
     ensures { Both mesh.grid x result }
 {
     let at = interval(mesh, x);

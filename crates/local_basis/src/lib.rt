@@ -9,20 +9,26 @@ mod search;
 mod triangle;
 
 ghost use Rattle.std.specs.Prelude.{◌≡◌, ◌≤◌};
-ghost use Rattle.local_basis.specs.Meshes.{calm_of, mesh_of};
+ghost use Rattle.spline.specs.Spline.{width_of};
+ghost use Rattle.local_basis.specs.Meshes.{calm_of};
 
 pub use fours::{both_at, slopes_at, values_at, values_by};
 use spline::Grid;
 
-// A grid with what every input on it asks for, worked out once: its width, and whether the span of its knots is finite.
+// A grid that the library accepts, with what every input on it asks for, worked out once: its width, and whether the
+// span of its knots is finite.
 #[derive(Clone, Copy)]
 pub struct Mesh {
     pub grid: Grid,
     pub width: f32,
     pub calm: bool,
+    ghost few: { grid.intervals ≤ 250000 },
+    ghost own_width: { width ≡ width_of grid },
+    ghost own_calm: { calm ≡ calm_of grid },
 }
 
-// Four neighbouring numbers of a basis, the first of which has the index `start`.
+// Four neighbouring numbers of a basis, the first of which has the index `start`. Four fields in place of an array: the
+// definitions in specs/ and eight functions name each.
 #[derive(Clone, Copy)]
 pub struct Four {
     pub start: usize,
@@ -40,21 +46,18 @@ pub struct Eight {
 }
 
 // Whether the width is above zero and the span of the knots is finite.
+#[tactic(auto, unfolding(crate::specs::Meshes::calm_of))]
 fn calm(grid: Grid) -> bool
     requires { grid.intervals ≤ 250000 }
     ensures { result ≡ calm_of grid }
 {
     let last = grid.intervals + 6;
-    if 0.0 < spline::width(grid) {
-        floats::is_finite(spline::knot(grid, last) - spline::knot(grid, 0))
-    } else {
-        false
-    }
+    0.0 < spline::width(grid) && floats::is_finite(spline::knot(grid, last) - spline::knot(grid, 0))
 }
 
 pub fn mesh_of(grid: Grid) -> Mesh
     requires { grid.intervals ≤ 250000 }
-    ensures { result ≡ mesh_of grid }
+    ensures { result.grid ≡ grid }
 {
     Mesh {
         grid,

@@ -5,6 +5,7 @@ ghost use Rattle.local_basis.specs.Fours.{down_by, up_by, placed_of};
 
 use crate::Four;
 
+#[tactic(auto, unfolding(crate::specs::Fours::down_by))]
 fn down_one(four: Four) -> Four
     ensures { result ≡ down_by 1 four }
 {
@@ -17,6 +18,7 @@ fn down_one(four: Four) -> Four
     }
 }
 
+#[tactic(auto, unfolding(crate::specs::Fours::up_by))]
 fn up_one(four: Four) -> Four
     requires { 1 ≤ four.start }
     ensures { result ≡ up_by 1 four }
@@ -30,7 +32,9 @@ fn up_one(four: Four) -> Four
     }
 }
 
-// By 1, 2 or 3 places.
+// By 1, 2 or 3 places. Test by test: of a loop the compiler makes a jump by a table, and `scripts/stack.sh` could then not
+// tell where a call goes.
+#[tactic(auto, using(crate::proofs::Moved::down_more), unfolding(crate::specs::Fours::down_by))]
 fn down(four: Four, n: usize) -> Four
     requires { (1 ≤ n) × (n ≤ 3) }
     ensures { result ≡ down_by n four }
@@ -46,6 +50,7 @@ fn down(four: Four, n: usize) -> Four
     down_one(two)
 }
 
+#[tactic(auto, using(crate::proofs::Moved::up_more, crate::proofs::Moved::up_start), unfolding(crate::specs::Fours::up_by))]
 fn up(four: Four, n: usize) -> Four
     requires { (1 ≤ n) × (n ≤ 3) × (n ≤ four.start) }
     ensures { result ≡ up_by n four }
@@ -62,16 +67,17 @@ fn up(four: Four, n: usize) -> Four
 }
 
 // The four for an x from knot `at` up to the next.
+#[tactic(auto, using(crate::proofs::Moved::down_none, crate::proofs::Moved::up_none))]
 pub fn placed(intervals: usize, at: usize, four: Four) -> Four
     requires { (intervals ≤ 250000) × (1 ≤ intervals) × (at ≤ intervals + 5) × (four.start ≡ at - 3) }
     ensures { result ≡ placed_of intervals at four }
 {
-    if at < 3 {
-        return down(four, 3 - at);
-    }
     let last = intervals + 2;
-    if last < at {
-        return up(four, at - last);
+    if at < 3 {
+        down(four, 3 - at)
+    } else if last < at {
+        up(four, at - last)
+    } else {
+        four
     }
-    four
 }

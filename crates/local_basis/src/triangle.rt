@@ -1,19 +1,11 @@
-// The triangle of Cox and de Boor on the six knots about an input, by the steps of `spline::triangle`: each value of a degree
-// is worked out once, and where a neighbour is zero half a step is left, `rising` or `falling`.
-ghost use Rattle.std.specs.Prelude.{◌≡◌, ◌-◌, ◌≤◌};
+// The triangle of Cox and de Boor on the six knots about an input, by the steps of `spline::triangle`: each value of a
+// degree is worked out once, and where a neighbour is zero half a step is left, `rising` or `falling`.
+ghost use Rattle.std.specs.Prelude.{◌≡◌, ◌≤◌};
 ghost use Rattle.local_basis.specs.Fours.{SquaresAt, cubes_of, rises_of};
-ghost use Rattle.local_basis.specs.Meshes.{Meshed};
 
 use crate::search::knot_at;
 use crate::{Four, Mesh};
 use spline::{blend, falling, portion, rising};
-
-// i - n, or 0.
-fn less(i: usize, n: usize) -> usize
-    ensures { result ≡ i - n }
-{
-    if i < n { 0 } else { i - n }
-}
 
 // The six knots about an input, and the three values of degree 2 there.
 #[derive(Clone, Copy)]
@@ -30,12 +22,13 @@ pub struct Squares {
 }
 
 // For an x from knot `at`, which is the third, up to the next.
+#[tactic(auto, unfolding(crate::specs::Fours::square_low, crate::specs::Fours::square_middle, crate::specs::Fours::square_high))]
 pub fn squares_of(mesh: Mesh, x: f32, at: usize) -> Squares
-    requires { (at ≤ 260000) × Meshed mesh }
+    requires { at ≤ 260000 }
     ensures { SquaresAt mesh.grid x at result }
 {
-    let k1 = knot_at(mesh, less(at, 2));
-    let k2 = knot_at(mesh, less(at, 1));
+    let k1 = knot_at(mesh, at.saturating_sub(2));
+    let k2 = knot_at(mesh, at.saturating_sub(1));
     let k3 = knot_at(mesh, at);
     let k4 = knot_at(mesh, at + 1);
     let k5 = knot_at(mesh, at + 2);
@@ -56,11 +49,12 @@ pub fn squares_of(mesh: Mesh, x: f32, at: usize) -> Squares
 }
 
 // The four values at an x from knot `at` up to the next, by the squares there.
+#[tactic(auto, unfolding(crate::specs::Fours::cubes_of))]
 pub fn cubes(s: Squares, x: f32, at: usize) -> Four
     ensures { result ≡ cubes_of s x at }
 {
     Four {
-        start: less(at, 3),
+        start: at.saturating_sub(3),
         first: falling(s.k1, s.k4, x, s.low),
         second: blend(s.k1, s.k2, s.k4, s.k5, x, s.low, s.middle),
         third: blend(s.k2, s.k3, s.k5, s.k6, x, s.middle, s.high),
@@ -69,6 +63,7 @@ pub fn cubes(s: Squares, x: f32, at: usize) -> Four
 }
 
 // The four slopes there.
+#[tactic(auto, unfolding(crate::specs::Fours::rises_of))]
 pub fn rises(s: Squares, at: usize) -> Four
     ensures { result ≡ rises_of s at }
 {
@@ -76,7 +71,7 @@ pub fn rises(s: Squares, at: usize) -> Four
     let rise_middle = portion(3.0, s.middle, s.k5 - s.k2);
     let rise_high = portion(3.0, s.high, s.k6 - s.k3);
     Four {
-        start: less(at, 3),
+        start: at.saturating_sub(3),
         first: 0.0 - rise_low,
         second: rise_low - rise_middle,
         third: rise_middle - rise_high,

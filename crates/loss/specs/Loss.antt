@@ -1,10 +1,11 @@
 -- R9.1 to R9.3: `mse_loss`, row by row. Definitions only.
 use Rattle.std.specs.Prelude.{ℕ, zero, suc, ◌*◌, ◌≡◌, List, length, Float}
+use Rattle.std.specs.declared.result.Result.{Result}
 use Rattle.std.specs.Float.Ieee.Scale.{finite}
 use Rattle.floats.specs.Binary32.{◌⊖◌, ◌⊗◌, ◌⊘◌, zero32, whole32}
 use Rattle.floats.specs.Sums.{at, sum_from}
 use Rattle.refusals.specs.declared.Refusal.{Refusal}
-use Rattle.refusals.specs.Refusals.{◌otherwise◌, ◌then◌, first_to, none}
+use Rattle.refusals.specs.Refusals.{◌otherwise◌, ◌then◌, first_to, answer_of}
 use Rattle.spline.specs.declared.Grid.{Grid}
 use Rattle.layers.specs.Net.{Net}
 use Rattle.layers.specs.Widths.{output_width, widest_in}
@@ -12,8 +13,6 @@ use Rattle.batches.specs.Batch.{row_at}
 use Rattle.passes.specs.Pass.{rows_of, finite_row, outputs_at, from11_to18}
 use Rattle.config.specs.Config.{carried_by, parameters_for}
 use Rattle.admission.specs.Admission.{up_to9, swept}
-use Rattle.loss.specs.declared.Loss.{Loss}
-use Rattle.loss.specs.declared.Loss.TheVariants.{Mean, Refused}
 
 -- ---- the errors, row by row
 -- R9.1: the difference rounded once and multiplied by itself
@@ -46,14 +45,9 @@ module _ (N : Net) (ps : List Float) (ws : List ℕ) (xs ts : List Float) where
   abbrev pub mean_error : Float
   mean_error = sum_after (rows_of ws xs) ⊘ whole32 (rows_of ws xs * output_width ws)
 
--- ---- R9.2, R3.2: the answer, and the refusal that it is
-abbrev pub loss_of : ℕ → ℕ → Float → Loss
-loss_of zero carried mean = Mean mean
-loss_of (suc n) carried mean = Refused (record { number = suc n; carried = carried })
-
-abbrev pub loss_refusal : Loss → Refusal
-loss_refusal (Mean x) = none
-loss_refusal (Refused r) = r
+-- ---- R9.2, R3.2: the answer
+abbrev pub loss_of : ℕ → ℕ → Float → Result Float Refusal
+loss_of n carried mean = answer_of n carried mean
 
 -- ---- R9.1, R3.4: the whole call
 module _ (N : Net) (ws : List ℕ) (g : Grid) (ps xs ts a b : List Float) where
@@ -65,13 +59,13 @@ module _ (N : Net) (ws : List ℕ) (g : Grid) (ps xs ts a b : List Float) where
   up_to18 = to9 then from11_to18 ps ws xs ts
 
   -- R3.2: 7 carries the total, and no refusal past the configuration carries anything
-  abbrev pub loss_answer : Loss
+  abbrev pub loss_answer : Result Float Refusal
   loss_answer =
       loss_of (up_to18 then rows_loss_fault N ps ws xs ts) (carried_by to9 (parameters_for ws g))
       (mean_error N ps ws xs ts)
 
   -- R9.2, R3.6: the answer, and all lent memory
-  pub record Lost (r : Loss) (a' b' : List Float) : Type 0 where
+  pub record Lost (r : Result Float Refusal) (a' b' : List Float) : Type 0 where
     pub answer : r ≡ loss_answer
     pub first : a' ≡ swept to9 (widest_in ws) a
     pub second : b' ≡ swept to9 (widest_in ws) b

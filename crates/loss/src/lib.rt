@@ -6,61 +6,36 @@ ghost use Rattle.std.specs.Prelude.{◌≡◌, ◌≤◌, length, take};
 ghost use Rattle.layers.specs.Net.{net_of, Net};
 ghost use Rattle.passes.specs.Turns.{Fits, holder};
 ghost use Rattle.loss.specs.Loss.{squared, Lost};
-ghost use Rattle.loss.specs.Steps.{added_to, errors_to, Summable, RowsSummed, refused_by, LossPast9};
+ghost use Rattle.loss.specs.Steps.{added_to, errors_to, Summable, RowsSummed, LossPast9};
 
 use admission::check_work;
-use config::Checked;
+use exponential::PowerTable;
 use layer_cursor::Layer;
-use refusals::Refusal;
+use refusals::{Refusal, refuse_unless};
 use spline::Grid;
 
-// A running sum of squared errors, or the number that stopped it: 20, 21 or 22.
-#[derive(Clone, Copy)]
-pub enum Sum {
-    Of(f32),
-    Stopped(u32),
-}
-
-#[derive(Clone, Copy)]
-pub enum Loss {
-    Mean(f32),
-    Refused(Refusal),
-}
-
 // One squared error more; it is one product.
-fn add_error(sum: f32, output: f32, target: f32) -> Sum
+fn add_error(sum: f32, output: f32, target: f32) -> Result<f32, Refusal>
     ensures { result ≡ added_to sum (squared output target) }
 {
     let difference = output - target;
     let squared = difference * difference;
-    if !floats::is_finite(squared) {
-        return Sum::Stopped(21);
-    }
+    refuse_unless(floats::is_finite(squared), 21)?;
     let next = sum + squared;
-    if !floats::is_finite(next) {
-        return Sum::Stopped(22);
-    }
-    Sum::Of(next)
+    refuse_unless(floats::is_finite(next), 22)?;
+    Ok(next)
 }
 
 // The squared errors of one row more, output by output.
-fn add_errors(sum: f32, outputs: &[f32], targets: &[f32]) -> Sum
+fn add_errors(sum: f32, outputs: &[f32], targets: &[f32]) -> Result<f32, Refusal>
     requires { length outputs.now ≤ length targets.now }
     ensures { result ≡ errors_to sum outputs.now targets.now (length outputs.now) }
 {
     let mut total = sum;
-    for i in 0..outputs.len() {
-        let step = add_error(total, outputs[i], targets[i]);
-        match step {
-            Sum::Of(next) => {
-                total = next;
-            }
-            Sum::Stopped(number) => {
-                return Sum::Stopped(number);
-            }
-        }
+    for (output, target) in outputs.iter().zip(targets) {
+        total = add_error(total, *output, *target)?;
     }
-    Sum::Of(total)
+    Ok(total)
 }
 
 // The errors of a row whose outputs lie at the front of one of the two slices.
@@ -71,19 +46,20 @@ fn row_errors(
     first: &[f32],
     second: &[f32],
     targets: &[f32],
-) -> Sum
+) -> Result<f32, Refusal>
     requires { (v ≤ length first.now) × (v ≤ length second.now) × (v ≤ length targets.now) }
     ensures { result
         ≡ errors_to sum (take v (holder layers first.now second.now)) targets.now v }
 {
     if layers % 2 == 0 {
-        add_errors(sum, &second[0..v], targets)
+        add_errors(sum, &second[..v], targets)
     } else {
-        add_errors(sum, &first[0..v], targets)
+        add_errors(sum, &first[..v], targets)
     }
 }
 
-// Rows in order: 20, and then the row's errors. The batch's checks are behind, so that a row's only refusal is 20.
+// Rows in order: 20, and then the row's errors. The batch's checks are behind, so that a row's only refusal is 20. By
+// index, as batches::row and those checks say where a row lies: chunks would say it a second time.
 fn sum_rows(
     grid: Grid,
     widths: &[usize],
@@ -93,7 +69,7 @@ fn sum_rows(
     rows: usize,
     first: &mut [f32],
     second: &mut [f32],
-) -> Sum
+) -> Result<f32, Refusal>
     requires { Summable grid model.now widths.now inputs.now targets.now first.old second.old rows }
     ensures { RowsSummed (net_of grid) model.now widths.now inputs.now
         targets.now first.old second.old result first.new second.new }
@@ -102,10 +78,10 @@ fn sum_rows(
     let w = widths[0];
     let v = widths[layers];
     let mut sum: f32 = 0.0;
-    let table = exponential::scaled_powers();
+    let table = PowerTable::new();
     let start = Layer::first(widths, grid);
     for r in 0..rows {
-        let number = passes::run_row(
+        passes::run_row(
             start,
             grid,
             &table,
@@ -114,30 +90,14 @@ fn sum_rows(
             batches::row(inputs, w, r),
             first,
             second,
-        );
-        if number != 0 {
-            return Sum::Stopped(number);
-        }
-        let step = row_errors(sum, layers, v, first, second, batches::row(targets, v, r));
-        match step {
-            Sum::Of(next) => {
-                sum = next;
-            }
-            Sum::Stopped(stop) => {
-                return Sum::Stopped(stop);
-            }
-        }
+        )?;
+        sum = row_errors(sum, layers, v, first, second, batches::row(targets, v, r))?;
     }
-    Sum::Of(sum)
-}
-
-fn refused(number: u32) -> Loss
-    ensures { result ≡ refused_by number }
-{
-    Loss::Refused(Refusal { number, carried: 0 })
+    Ok(sum)
 }
 
 // Past check 9: 11, the batch, and then the rows.
+#[tactic(auto, using(batches::proofs::Rows::batch_sound, passes::proofs::EachRow::wide_rows, crate::proofs::Losses::loss_mean, crate::proofs::Losses::loss_stopped, floats::proofs::Casts::exact), unfolding(passes::specs::Pass::from11_to18))]
 fn loss_sound(
     grid: Grid,
     widths: &[usize],
@@ -146,26 +106,18 @@ fn loss_sound(
     targets: &[f32],
     first: &mut [f32],
     second: &mut [f32],
-) -> Loss
+) -> Result<f32, Refusal>
     requires { Fits grid model.now widths.now first.old second.old }
     ensures { LossPast9 (net_of grid) model.now widths.now inputs.now
         targets.now first.old second.old result first.new second.new }
 {
-    if !floats::all_finite(model) {
-        return refused(11);
-    }
+    refuse_unless(floats::all_finite(model), 11)?;
     let layers = widths.len() - 1;
     let w = widths[0];
-    let fault = batches::batch_fault(inputs, targets, w, widths[layers]);
-    if fault != 0 {
-        return refused(fault);
-    }
+    batches::check_batch(inputs, targets, w, widths[layers])?;
     let rows = batches::rows_in(inputs.len(), w);
-    let sum = sum_rows(grid, widths, model, inputs, targets, rows, first, second);
-    match sum {
-        Sum::Of(total) => Loss::Mean(total / (targets.len() as f32)),
-        Sum::Stopped(number) => refused(number),
-    }
+    let total = sum_rows(grid, widths, model, inputs, targets, rows, first, second)?;
+    Ok(total / (targets.len() as f32))
 }
 
 // The mean over all rows and outputs of the squared error.
@@ -177,19 +129,13 @@ pub fn mse_loss(
     targets: &[f32],
     first: &mut [f32],
     second: &mut [f32],
-) -> Loss
+) -> Result<f32, Refusal>
     ensures { Lost (net_of grid) widths.now grid model.now inputs.now
         targets.now first.old second.old result first.new second.new }
 {
-    let checked = check_work(widths, grid, model.len(), first.len(), second.len());
-    match checked {
-        Checked::Refused(refusal) => Loss::Refused(refusal),
-        Checked::Sound(sizes) => {
-            let answer = loss_sound(grid, widths, model, inputs, targets, first, second);
-            let widest = sizes.widest;
-            floats::clear(first, widest);
-            floats::clear(second, widest);
-            answer
-        }
-    }
+    let sizes = check_work(widths, grid, model.len(), first.len(), second.len())?;
+    let answer = loss_sound(grid, widths, model, inputs, targets, first, second);
+    floats::clear(first, sizes.widest);
+    floats::clear(second, sizes.widest);
+    answer
 }

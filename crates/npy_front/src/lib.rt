@@ -32,9 +32,7 @@ fn append_spaces(out: &mut [u8], at: usize, to: usize) -> usize
     requires { (at ≤ to) × (to ≤ length out.old) }
     ensures { Appended out.old at (replicate (to - at) 32) out.new result }
 {
-    for place in at..to {
-        out[place] = b' ';
-    }
+    out[at..to].fill(b' ');
     to
 }
 

@@ -1,12 +1,14 @@
 -- A file whose header's text lies within it. Assumes nothing.
 use Prim.Native.Nat.{ℕ, ◌≤◌, ◌<◌}
 use native.Mathlib.Omega.{arith}
-use mathlib.Core.Path.{◌≡◌, refl}
+use mathlib.Core.Path.{◌≡◌, sym, ◌∙◌}
 use mathlib.Core.Bool.{Bool, true, false, and-false, and-eq-true_iff}
 use mathlib.Core.List.{List}
 use lib.ListN.{length, take}
 use borrow.Author.Tests.{leb-true, lt-leb}
-use Rattle.refusals.specs.Refusals.{◌otherwise◌, ◌then◌}
+use Rattle.std.specs.Prelude.{Ok}
+use Rattle.refusals.specs.Refusals.{◌otherwise◌, outcome_of}
+use Rattle.refusals.proofs.Firsts.{test_passes, not_refused, both_pass}
 use Rattle.npy_tokens.specs.Tokens.{same}
 use Rattle.npy_header.specs.Reading.{header_of, header_fault}
 use Rattle.npy_header.specs.File.{magic, text_in, body_at, is_framed, file_fault}
@@ -20,12 +22,14 @@ pub too_short : (bs : List ℕ) → length bs < 10 → is_framed bs ≡ false
 unfolding is_framed
 too_short bs h = rw (lt-leb (body_at bs) (length bs) (omega arith)) (and-false (same (take 8 bs) magic))
 
--- a file that is not refused with 29
-pub not_29 : (shape bs : List ℕ) → (file_fault shape bs ≡ 29 → ⊥) → body_at bs ≤ length bs
+-- a file that is not refused
+pub accepted_inside : (bs : List ℕ) (framed : Bool) → framed ≡ is_framed bs → outcome_of (framed otherwise 29) 0 ≡ Ok tt
+    → body_at bs ≤ length bs
+accepted_inside bs framed e a = framed_inside bs (sym e ∙ test_passes framed 28 (not_refused (framed otherwise 29) 0 a))
+
+pub not_refused_inside : (shape bs : List ℕ) → outcome_of (file_fault shape bs) 0 ≡ Ok tt → body_at bs ≤ length bs
 unfolding file_fault
-not_29 shape bs h = by_test (is_framed bs) refl h
-  where
-    by_test : (t : Bool) → is_framed bs ≡ t
-        → ((t otherwise 29 then header_fault shape (header_of (text_in bs))) ≡ 29 → ⊥) → body_at bs ≤ length bs
-    by_test true e n = framed_inside bs e
-    by_test false e n = absurd (n refl)
+not_refused_inside shape bs a =
+    framed_inside bs
+    (test_passes (is_framed bs) 28
+    (both_pass (is_framed bs otherwise 29) (header_fault shape (header_of (text_in bs))) (not_refused (file_fault shape bs) 0 a)).0)

@@ -1,24 +1,26 @@
 // The three entries of a header's dictionary, in any order.
 ghost use Rattle.std.specs.Prelude.{◌≡◌, ◌≤◌, length, drop};
+ghost use Rattle.refusals.specs.Refusals.{outcome_of};
 ghost use Rattle.npy_tokens.specs.Places.{Place, part};
 ghost use Rattle.npy_header.specs.Reading.{after_optional_comma, is_closed, with_descr, with_order};
-ghost use Rattle.npy_header.specs.Reading.{with_shape, with_value, entry_of, comma_of, entries_of, header_of, header_fault};
-ghost use Rattle.npy_header.specs.Steps.{Small, Follows, Keeps, Always, Fails, TruthRead};
+ghost use Rattle.npy_header.specs.Reading.{with_shape, with_value, entry_of, comma_of, entries_of};
+ghost use Rattle.npy_header.specs.Reading.{header_of, header_fault};
+ghost use Rattle.npy_header.specs.Steps.{Small, Follows, found_fault, Keeps, Always, Fails, TruthRead};
 
 use crate::sizes::sizes_at;
 use npy_tokens::{Class, Quoted};
+use refusals::{Refusal, refuse_unless};
 
-// Which entries were found so far, whether their values are those asked for, and the place behind the last.
+// Which entries were found so far, and of each whether its value is the one asked for; and the place behind the last.
 #[derive(Clone, Copy)]
 pub struct Found {
     pub next: usize,
-    pub descr: bool,
-    pub order: bool,
-    pub shape: bool,
-    pub asked: bool,
+    pub descr: Option<bool>,
+    pub order: Option<bool>,
+    pub shape: Option<bool>,
 }
 
-// True or False, and the place behind it.
+// True or False, and the place behind it. No Option: a place is asked for whatever was read.
 #[derive(Clone, Copy)]
 pub struct Truth {
     pub holds: bool,
@@ -42,16 +44,13 @@ fn truth_at(text: &[u8], at: usize) -> Truth
     }
 }
 
-// The same with nothing left to read.
+// The same with nothing left to read. No Result: by the definition `header_of`, what fails once fails to its end.
 fn failed(text: &[u8], found: Found) -> Found
     ensures { Fails text.now found result }
 {
     Found {
         next: text.len(),
-        descr: found.descr,
-        order: found.order,
-        shape: found.shape,
-        asked: found.asked,
+        ..found
     }
 }
 
@@ -60,17 +59,15 @@ fn take_descr(text: &[u8], found: Found, at: usize) -> Found
     requires { at ≤ length text.now }
     ensures { Always text.now (λ s. with_descr s.descr s (drop at text.now)) found result }
 {
-    if found.descr {
+    if found.descr.is_some() {
         return failed(text, found);
     }
     let value = npy_tokens::string(text, at);
     let asked = npy_tokens::spells(text, value.from, value.end, b"<f4");
     Found {
         next: value.next,
-        descr: true,
-        order: found.order,
-        shape: found.shape,
-        asked: found.asked & asked,
+        descr: Some(asked),
+        ..found
     }
 }
 
@@ -78,16 +75,14 @@ fn take_order(text: &[u8], found: Found, at: usize) -> Found
     requires { at ≤ length text.now }
     ensures { Always text.now (λ s. with_order s.fortran_order s (drop at text.now)) found result }
 {
-    if found.order {
+    if found.order.is_some() {
         return failed(text, found);
     }
     let value = truth_at(text, at);
     Found {
         next: value.next,
-        descr: found.descr,
-        order: true,
-        shape: found.shape,
-        asked: found.asked & !value.holds,
+        order: Some(!value.holds),
+        ..found
     }
 }
 
@@ -96,16 +91,14 @@ fn take_shape(text: &[u8], shape: &[usize], found: Found, at: usize) -> Found
     ensures { Keeps text.now shape.now (λ s. with_shape s.shape s (drop at text.now))
         found result }
 {
-    if found.shape {
+    if found.shape.is_some() {
         return failed(text, found);
     }
     let value = sizes_at(text, shape, at);
     Found {
         next: value.next,
-        descr: found.descr,
-        order: found.order,
-        shape: true,
-        asked: found.asked & value.asked,
+        shape: Some(value.asked),
+        ..found
     }
 }
 
@@ -143,10 +136,7 @@ fn comma(text: &[u8], found: Found) -> Found
 {
     Found {
         next: npy_tokens::past_token(text, found.next, b','),
-        descr: found.descr,
-        order: found.order,
-        shape: found.shape,
-        asked: found.asked,
+        ..found
     }
 }
 
@@ -157,10 +147,9 @@ fn entries(text: &[u8], shape: &[usize]) -> Found
 {
     let none = Found {
         next: npy_tokens::past_byte(text, 0, b'{'),
-        descr: false,
-        order: false,
-        shape: false,
-        asked: true,
+        descr: None,
+        order: None,
+        shape: None,
     };
     let first = take_entry(text, shape, none);
     let second = take_entry(text, shape, comma(text, first));
@@ -179,7 +168,8 @@ fn past_optional_comma(text: &[u8], at: usize) -> usize
     at
 }
 
-// Whether the text ends as it should behind the last entry: a comma or none, the brace, spaces, and the newline as last byte.
+// Whether the text ends as it should behind the last entry: a comma or none, the brace, spaces, and the newline as last
+// byte.
 fn is_closed(text: &[u8], at: usize) -> bool
     requires { at ≤ length text.now }
     ensures { result ≡ is_closed (drop at text.now) }
@@ -190,17 +180,22 @@ fn is_closed(text: &[u8], at: usize) -> bool
     npy_tokens::spells(text, newline, text.len(), b"\n")
 }
 
-// 29 for a text that is no header, 30 for one of another type, order or shape, or 0.
-pub fn text_fault(text: &[u8], shape: &[usize]) -> u32
+// 29 where an entry is missing, and then 30 where one is not the one asked for.
+fn check_entries(found: Found) -> Result<(), Refusal>
+    ensures { result ≡ outcome_of (found_fault found.descr found.order found.shape) 0 }
+{
+    let (Some(descr), Some(order), Some(shape)) = (found.descr, found.order, found.shape) else {
+        return Err(Refusal::new(29));
+    };
+    refuse_unless(descr && order && shape, 30)
+}
+
+// 29 for a text that is no header, and then 30 for one of another type, order or shape.
+pub fn check_text(text: &[u8], shape: &[usize]) -> Result<(), Refusal>
     requires { Small shape.now }
-    ensures { result ≡ header_fault shape.now (header_of text.now) }
+    ensures { result ≡ outcome_of (header_fault shape.now (header_of text.now)) 0 }
 {
     let found = entries(text, shape);
-    if !is_closed(text, found.next) {
-        return 29;
-    }
-    if !(found.descr & found.order & found.shape) {
-        return 29;
-    }
-    if found.asked { 0 } else { 30 }
+    refuse_unless(is_closed(text, found.next), 29)?;
+    check_entries(found)
 }

@@ -1,25 +1,21 @@
 // What stands around a header's text: the magic bytes and the version before it, its length, and the numbers behind it.
 ghost use Rattle.std.specs.Prelude.{◌≡◌, ◌≤◌, length};
+ghost use Rattle.refusals.specs.Refusals.{outcome_of};
 ghost use Rattle.npy_header.specs.File.{is_framed, body_at, file_fault};
 ghost use Rattle.npy_header.specs.Steps.{Small};
 
-use crate::entries::text_fault;
+use crate::entries::check_text;
+use refusals::{Refusal, refuse_unless};
 
 // Where the text of a header begins.
 const TEXT_AT: usize = 10;
-
-fn wide(byte: u8) -> usize
-    ensures { (result ≡ byte) × (result ≤ 255) }
-{
-    byte as usize
-}
 
 // Where the numbers begin, by the length that the file names.
 pub fn body_at(file: &[u8]) -> usize
     requires { 10 ≤ length file.now }
     ensures { result ≡ body_at file.now }
 {
-    TEXT_AT + (wide(file[8]) + 256 * wide(file[9]))
+    TEXT_AT + usize::from(u16::from_le_bytes([file[8], file[9]]))
 }
 
 fn is_framed(file: &[u8]) -> bool
@@ -32,14 +28,13 @@ fn is_framed(file: &[u8]) -> bool
     magic & (body_at(file) <= file.len())
 }
 
-// 29 for a file that does not begin with a header, 30 for another type, order or shape, or 0.
-pub fn header_fault(file: &[u8], shape: &[usize]) -> u32
+// 29 for a file that does not begin with a header, and then 30 for another type, order or shape.
+#[tactic(auto, using(crate::proofs::Frames::accepted_inside), unfolding(crate::specs::File::file_fault))]
+pub fn check_header(file: &[u8], shape: &[usize]) -> Result<(), Refusal>
     requires { Small shape.now }
-    ensures { result ≡ file_fault shape.now file.now }
+    ensures { result ≡ outcome_of (file_fault shape.now file.now) 0 }
 {
-    if !is_framed(file) {
-        return 29;
-    }
+    refuse_unless(is_framed(file), 29)?;
     let end = body_at(file);
-    text_fault(&file[TEXT_AT..end], shape)
+    check_text(&file[TEXT_AT..end], shape)
 }

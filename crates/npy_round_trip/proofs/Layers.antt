@@ -9,7 +9,8 @@ use lib.Ieee.{Float}
 use borrow.Author.Tests.{ltb-true}
 use Rattle.refusals.proofs.Firsts.{both_pass, test_passes}
 use Rattle.spline.specs.declared.Grid.{Grid}
-use Rattle.local_basis.specs.Meshes.{mesh_of}
+use Rattle.spline.specs.Spline.{width_of}
+use Rattle.local_basis.specs.Meshes.{calm_of}
 use Rattle.layers.specs.Widths.{width_at, widths_to}
 use Rattle.layer_cursor.specs.declared.Layer.{Layer}
 use Rattle.layer_cursor.specs.Cursor.{Stands}
@@ -26,10 +27,10 @@ module _ (ws : List ℕ) (g : Grid) (l : ℕ) where
     pub inside : layer_at ws g l + edges_of ws l * (g.intervals + 5) ≤ length ps
 
   -- the layer, as a walk over all of them would come to it
-  abbrev layer : Layer
-  layer = record {
+  abbrev layer : g.intervals ≤ 250000 → Layer
+  layer few = record {
     index = l;
-    mesh = mesh_of g;
+    mesh = record { grid = g; width = width_of g; calm = calm_of g; few = few; own_width = refl; own_calm = refl };
     at = layer_at ws g l;
     node = widths_to ws l;
     inputs = width_at ws l;
@@ -42,7 +43,7 @@ module _ (ws : List ℕ) (g : Grid) (l : ℕ) where
       let both = both_pass (up_to8 ws g (length ps)) _ e in
       let there = ltb-true l (length ws - 1) (test_passes (ltb l (length ws - 1)) 36 both.1) in
       let r = ready ws g ps both.0 in
-      let stands : Stands g ws l layer =
+      let stands : Stands g ws l (layer r.walk.grid) =
       record { index = refl; mesh = refl; part = refl; nodes = refl; inputs = refl; outputs = refl } in
       let z = small_layer r there stands in
       record {

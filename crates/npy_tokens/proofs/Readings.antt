@@ -12,28 +12,26 @@ use Rattle.npy_tokens.specs.declared.Quoted.{Quoted}
 use Rattle.npy_tokens.specs.Tokens.{front, behind, after_byte, after_token, begins_with, is_quote, between, after_quotes}
 use Rattle.npy_tokens.specs.Tokens.{plain, value_of, digits_in, number_in, after_number}
 use Rattle.npy_tokens.specs.Places.{Place, part, Ended, StringRead, NumberRead, counted}
+use Rattle.npy_tokens.proofs.Texts.{digits_found}
 use Rattle.npy_tokens.proofs.Spans.{rest_cons, rest_none, part_none, behind_no_longer}
 
 module _ (text : List ℕ) (at first : ℕ) (spaces : Ended text at Space first) where
-  abbrev b : ℕ
-  b = get_or text first 0
-
   -- the text from its first byte on
-  first_byte : first < length text → behind Space (drop at text) ≡ b ∷ drop (first + 1) text
-  first_byte h = sym spaces.place.rest ∙ rest_cons text first h
+  first_byte : (b : ℕ) → first < length text → b ≡ get_or text first 0 → behind Space (drop at text) ≡ b ∷ drop (first + 1) text
+  first_byte b h e = sym spaces.place.rest ∙ rw e (rest_cons text first h)
 
   -- ---- a string
-  pub string_found : (end next : ℕ) → first < length text → is_quote b ≡ true → Ended text (first + 1) (Within b) end
+  pub string_found : (b end next : ℕ) → first < length text → b ≡ get_or text first 0 → is_quote b ≡ true → Ended text (first + 1) (Within b) end
       → Place text next (after_byte b (drop end text))
       → StringRead text at (record { from = first + 1; end = end; next = next })
   unfolding between after_quotes
-  string_found end next h q e p = record {
+  string_found b end next h f q e p = record {
     ordered = e.behind_from;
     inside = e.place.inside;
-    content = e.front ∙ sym (ap between (first_byte h) ∙ rw q);
+    content = e.front ∙ sym (ap between (first_byte b h f) ∙ rw q);
     place = record {
       inside = p.inside;
-      rest = p.rest ∙ ap (after_byte b) e.place.rest ∙ sym (ap after_quotes (first_byte h) ∙ rw q);
+      rest = p.rest ∙ ap (after_byte b) e.place.rest ∙ sym (ap after_quotes (first_byte b h f) ∙ rw q);
     };
   }
 
@@ -49,9 +47,9 @@ module _ (text : List ℕ) (at first : ℕ) (spaces : Ended text at Space first)
     place = record { inside = omega arith; rest = drop-length text ∙ sym r };
   }
 
-  pub no_quote : first < length text → is_quote b ≡ false → StringRead text at nowhere
+  pub no_quote : (b : ℕ) → first < length text → b ≡ get_or text first 0 → is_quote b ≡ false → StringRead text at nowhere
   unfolding between after_quotes
-  no_quote h q = string_missing (ap between (first_byte h) ∙ rw q) (ap after_quotes (first_byte h) ∙ rw q)
+  no_quote b h f q = string_missing (ap between (first_byte b h f) ∙ rw q) (ap after_quotes (first_byte b h f) ∙ rw q)
 
   pub no_string : length text ≤ first → StringRead text at nowhere
   unfolding between after_quotes
@@ -100,3 +98,5 @@ begun_shorter c (b ∷ bs) e = rw e (omega arith)
 
 pub token_shorter : (c : ℕ) (bs : List ℕ) → begins_with c (behind Space bs) ≡ true → length (after_token c bs) < length bs
 token_shorter c bs e = omega (arith, begun_shorter c (behind Space bs) e, behind_no_longer Space bs)
+
+pub ruleset numbers = (digits_found, number_found, no_number)

@@ -2,17 +2,20 @@
 use Prim.Native.Nat.{ℕ, zero, suc, ◌+◌, ◌*◌, ◌-◌, ◌≤◌, ◌<◌}
 use native.Mathlib.Omega.{arith}
 use mathlib.Core.Path.{◌≡◌, refl, sym, ap, ◌∙◌}
-use mathlib.Core.Bool.{Bool, true, false, ◌&&◌, not, cond, and-false, and-eq-true_iff, false≢true}
+use mathlib.Core.Bool.{Bool, true, false, not, cond, and-eq-true_iff, false≢true}
 use mathlib.Core.List.{List, [], ◌∷◌, ◌++◌}
 use lib.Dec.{eqb, leb, ltb}
-use lib.ListN.{length, get_or, drop, length-drop}
-use lib.Seq.{drop-length, drop-drop, get_or-take, get_or-drop, length-take-le}
-use borrow.Author.Tests.{eq-eqb, leb-true, ltb-true, ltb-false}
+use Rattle.std.specs.Prelude.{nat_eq}
+use Rattle.std.specs.Cmp.Lexicographic.{pointwise}
+use lib.ListN.{length, get_or, take, drop, length-drop}
+use native.Mathlib.Numerals.{add-one}
+use lib.Seq.{take-suc, drop-length, drop-drop, get_or-take, get_or-drop, length-take-le}
+use borrow.Author.Tests.{leb-true, ltb-true, ltb-false}
 use Rattle.npy_tokens.specs.declared.Class.{Class}
 use Rattle.npy_tokens.specs.declared.Class.TheVariants.{Digit}
 use Rattle.npy_tokens.specs.Tokens.{belongs, front, after_byte, after_bytes, begins_with, plain, value_from, value_of, same}
 use Rattle.npy_tokens.specs.Places.{Place, part, Ended, Digits, counted}
-use Rattle.npy_tokens.proofs.Spans.{rest_cons, rest_none, part_more}
+use Rattle.npy_tokens.proofs.Spans.{rest_cons, rest_none}
 
 -- ---- a byte at a place
 module _ (text : List ℕ) (p c : ℕ) where
@@ -23,18 +26,6 @@ module _ (text : List ℕ) (p c : ℕ) where
   pub begins_nowhere : length text ≤ p → begins_with c (drop p text) ≡ false
   unfolding begins_with
   begins_nowhere h = rw (rest_none text p h)
-
-  pub past_here : p < length text → get_or text p 0 ≡ c → Place text (p + 1) (after_byte c (drop p text))
-  unfolding after_byte
-  past_here h e = record { inside = omega arith; rest = rw (rest_cons text p h, eq-eqb _ c e) }
-
-  pub past_other : p < length text → eqb (get_or text p 0) c ≡ false → Place text (length text) (after_byte c (drop p text))
-  unfolding after_byte
-  past_other h e = record { inside = omega arith; rest = rw (rest_cons text p h, e) (drop-length text) }
-
-  pub past_nowhere : length text ≤ p → Place text (length text) (after_byte c (drop p text))
-  unfolding after_byte
-  past_nowhere h = record { inside = omega arith; rest = rw (rest_none text p h) (drop-length text) }
 
 -- a text that begins with a byte at a place has it there, and goes on behind it
 begun : (c : ℕ) (bs : List ℕ) → begins_with c bs ≡ true → after_byte c bs ≡ drop 1 bs
@@ -53,24 +44,40 @@ begins_inside text p c e = by_test (ltb p (length text)) refl
 pub past_begun : (text : List ℕ) (p c : ℕ) → begins_with c (drop p text) ≡ true → after_byte c (drop p text) ≡ drop (p + 1) text
 past_begun text p c e = begun c (drop p text) e ∙ drop-drop 1 p text
 
--- one byte of several
-pub past_more : (bytes rest : List ℕ) (i : ℕ) → i < length bytes
-    → after_bytes (drop i bytes) rest ≡ after_bytes (drop (i + 1) bytes) (after_byte (get_or bytes i 0) rest)
+-- the place behind a byte that is there, and behind one that is not
+pub past_here : (text : List ℕ) (p c : ℕ) → begins_with c (drop p text) ≡ true
+    → Place text (p + 1) (after_byte c (drop p text))
+past_here text p c e = record { inside = omega (arith, begins_inside text p c e); rest = sym (past_begun text p c e) }
+
+past_missing : (c : ℕ) (bs : List ℕ) → begins_with c bs ≡ false → after_byte c bs ≡ []
+unfolding begins_with after_byte
+past_missing c [] e = refl
+past_missing c (b ∷ bs) e = rw e
+
+pub past_nowhere : (text : List ℕ) (p c : ℕ) → begins_with c (drop p text) ≡ false
+    → Place text (length text) (after_byte c (drop p text))
+past_nowhere text p c e = record { inside = omega arith; rest = drop-length text ∙ sym (past_missing c (drop p text) e) }
+
+-- one byte behind several
+past_more : (bytes rest : List ℕ) (b : ℕ) → after_bytes (bytes ++ (b ∷ [])) rest ≡ after_byte b (after_bytes bytes rest)
 unfolding after_bytes
-past_more bytes rest i h = rw (rest_cons bytes i h)
+past_more [] rest b = refl
+past_more (c ∷ bytes) rest b = past_more bytes (after_byte c rest) b
 
--- ---- the same bytes
-pub same_other_length : (a b : List ℕ) → (length a ≡ length b → ⊥) → same a b ≡ false
-unfolding same
-same_other_length [] [] h = absurd (h refl)
-same_other_length [] (y ∷ b) h = refl
-same_other_length (x ∷ a) [] h = refl
-same_other_length (x ∷ a) (y ∷ b) h = rw (same_other_length a b (λ e. h (ap suc e))) (and-false (eqb x y))
+pub past_on : (text bytes rest : List ℕ) (b place next : ℕ) → Place text place (after_bytes bytes rest)
+    → Place text next (after_byte b (drop place text)) → Place text next (after_bytes (bytes ++ (b ∷ [])) rest)
+past_on text bytes rest b place next p q = record {
+  inside = q.inside;
+  rest = q.rest ∙ ap (after_byte b) p.rest ∙ sym (past_more bytes rest b);
+}
 
-pub same_from : (a b : List ℕ) (i : ℕ) → i < length a → i < length b
-    → same (drop i a) (drop i b) ≡ eqb (get_or a i 0) (get_or b i 0) && same (drop (i + 1) a) (drop (i + 1) b)
+-- ---- the same bytes, as `==` on slices finds them
+pub same_pointwise : (a b : List ℕ) → pointwise nat_eq a b ≡ same a b
 unfolding same
-same_from a b i h l = rw (rest_cons a i h, rest_cons b i l)
+same_pointwise [] [] = refl
+same_pointwise [] (y ∷ b) = refl
+same_pointwise (x ∷ a) [] = refl
+same_pointwise (x ∷ a) (y ∷ b) = rw (same_pointwise a b)
 
 -- ---- the bytes from one place up to another
 module _ (text : List ℕ) (from end : ℕ) (o : from ≤ end) (h : end ≤ length text) where
@@ -107,13 +114,17 @@ counted_on : (v k : ℕ) → counted (counted v * 10 + k) ≡ counted (v * 10 + 
 counted_on v k = omega arith
 
 -- a number with one digit more
-pub value_more : (text : List ℕ) (from place n m : ℕ) → from ≤ place → place < length text
-    → n ≡ counted (value_of (part text from place)) → m ≡ counted (n * 10 + (get_or text place 0 - 48))
-    → m ≡ counted (value_of (part text from (place + 1)))
-value_more text from place n m o h e f =
-    let d = get_or text place 0 in
-    f ∙ ap (λ (k : ℕ). counted (k * 10 + (d - 48))) e ∙ counted_on (value_of (part text from place)) (d - 48)
-    ∙ ap counted (sym (ap value_of (part_more text from place o h) ∙ value_last 0 (part text from place) d))
+pub value_more : (ds : List ℕ) (i n : ℕ) → i < length ds → n ≡ counted (value_of (take i ds))
+    → counted (n * 10 + (get_or ds i 0 - 48)) ≡ counted (value_of (take (i + 1) ds))
+value_more ds i n h e =
+    let d = get_or ds i 0 in
+    ap (λ (k : ℕ). counted (k * 10 + (d - 48))) e ∙ counted_on (value_of (take i ds)) (d - 48)
+    ∙ ap counted (sym (ap value_of (rw add-one (take-suc ds i 0 h)) ∙ value_last 0 (take i ds) d))
+
+pub digit_here : (text : List ℕ) (from end i : ℕ) → Digits text from end → i < end - from
+    → 48 ≤ get_or (part text from end) i 0
+digit_here text from end i d h =
+    rw (part_at_lem text from end d.ordered d.inside i (omega arith)) (d.each (from + i) (omega arith) (omega arith))
 
 -- each byte of a front belongs to its class
 belongs_at : (c : Class) (b : ℕ) (bs : List ℕ) (t : Bool) → belongs c b ≡ t
@@ -148,3 +159,10 @@ digits_found text from end e =
           ∙ ap (λ (k : ℕ). get_or text k 0) there in
           rw here at (digit_least _ (front_belongs Digit (drop from text) j short));
     }
+
+-- ---- what the functions of one byte, of a number's form and of its digits cite
+pub ruleset one_byte = (begins_inside, past_here, past_nowhere)
+
+pub ruleset plains = (plain_none, plain_one, plain_more)
+
+pub ruleset digit_steps = (digit_here, value_more)

@@ -35,15 +35,14 @@ pub struct Number {
 // Numbers are counted up to here, and no further: those of a shape that fits are smaller, and no number wraps.
 const MOST: usize = 1_000_000;
 
+#[tactic(auto, unfolding(crate::specs::Tokens::belongs))]
 fn is_in(class: Class, byte: u8) -> bool
     ensures { result ≡ belongs class byte }
 {
     match class {
         Class::Space => byte == b' ',
-        Class::Digit => (b'0' <= byte) & (byte <= b'9'),
-        Class::Within(quote) => {
-            (b' ' <= byte) & (byte <= b'~') & (byte != b'\\') & (byte != quote)
-        }
+        Class::Digit => byte.is_ascii_digit(),
+        Class::Within(quote) => (b' '..=b'~').contains(&byte) && byte != b'\\' && byte != quote,
     }
 }
 
@@ -52,46 +51,38 @@ pub fn end_of(text: &[u8], from: usize, class: Class) -> usize
     requires { from ≤ length text.now }
     ensures { Ended text.now from class result }
 {
-    let mut end = from;
-    while end < text.len() {
-        if !is_in(class, text[end]) {
-            return end;
-        }
-        end += 1;
-    }
-    end
+    from + text[from..]
+        .iter()
+        .take_while(|byte| is_in(class, **byte))
+        .count()
 }
 
 // Whether the text has this byte at a place.
+#[tactic(auto, using(crate::proofs::Texts::begins_here, crate::proofs::Texts::begins_nowhere))]
 pub fn stands_at(text: &[u8], at: usize, byte: u8) -> bool
     ensures { result ≡ begins_with byte (drop at text.now) }
 {
-    if at < text.len() {
-        return text[at] == byte;
-    }
-    false
+    text.get(at) == Some(&byte)
 }
 
+#[tactic(auto, using(crate::proofs::Texts::one_byte))]
 pub fn past_byte(text: &[u8], at: usize, byte: u8) -> usize
     ensures { Place text.now result (after_byte byte (drop at text.now)) }
 {
-    if at < text.len() {
-        if text[at] == byte {
-            return at + 1;
-        }
+    if stands_at(text, at, byte) {
+        at + 1
+    } else {
+        text.len()
     }
-    text.len()
 }
 
 pub fn past_bytes(text: &[u8], at: usize, bytes: &[u8]) -> usize
     requires { at ≤ length text.now }
     ensures { Place text.now result (after_bytes bytes.now (drop at text.now)) }
 {
-    let mut next = at;
-    for i in 0..bytes.len() {
-        next = past_byte(text, next, bytes[i]);
-    }
-    next
+    bytes
+        .iter()
+        .fold(at, |next, byte| past_byte(text, next, *byte))
 }
 
 // Spaces or none, and then the byte.
@@ -104,26 +95,18 @@ pub fn past_token(text: &[u8], at: usize, byte: u8) -> usize
 }
 
 // Whether the bytes from one place up to another are these.
+#[tactic(auto, using(crate::proofs::Texts::same_pointwise))]
 pub fn spells(text: &[u8], from: usize, end: usize, word: &[u8]) -> bool
     requires { (from ≤ end) × (end ≤ length text.now) }
     ensures { result ≡ same (part text.now from end) word.now }
 {
-    if end - from != word.len() {
-        return false;
-    }
-    for i in 0..word.len() {
-        let place = from + i;
-        if text[place] != word[i] {
-            return false;
-        }
-    }
-    true
+    &text[from..end] == word
 }
 
 fn is_quote(byte: u8) -> bool
     ensures { result ≡ is_quote byte }
 {
-    (byte == b'\'') | (byte == b'"')
+    matches!(byte, b'\'' | b'"')
 }
 
 // Spaces or none, and a string between two quotes of one kind.
@@ -131,37 +114,36 @@ pub fn string(text: &[u8], at: usize) -> Quoted
     requires { at ≤ length text.now }
     ensures { StringRead text.now at result }
 {
-    let nowhere = text.len();
     let open = end_of(text, at, Class::Space);
-    if open < text.len() {
-        let quote = text[open];
-        if is_quote(quote) {
+    match text.get(open) {
+        Some(&quote) if is_quote(quote) => {
             let from = open + 1;
             let end = end_of(text, from, Class::Within(quote));
             let next = past_byte(text, end, quote);
-            return Quoted { from, end, next };
+            Quoted { from, end, next }
         }
-    }
-    Quoted {
-        from: nowhere,
-        end: nowhere,
-        next: nowhere,
+        _ => {
+            let nowhere = text.len();
+            Quoted {
+                from: nowhere,
+                end: nowhere,
+                next: nowhere,
+            }
+        }
     }
 }
 
 // Whether the digits from one place up to another are a number as it is written: some, and no 0 before others.
+#[tactic(auto, using(crate::proofs::Texts::plains))]
 fn is_plain(text: &[u8], from: usize, end: usize) -> bool
     requires { (from ≤ end) × (end ≤ length text.now) }
     ensures { result ≡ plain (part text.now from end) }
 {
-    let digits = end - from;
-    if digits == 0 {
-        return false;
+    match &text[from..end] {
+        [] => false,
+        [_] => true,
+        [first, ..] => *first != b'0',
     }
-    if digits == 1 {
-        return true;
-    }
-    text[from] != b'0'
 }
 
 // What a number comes to with one digit more.
@@ -169,23 +151,24 @@ fn with_digit(n: usize, digit: u8) -> usize
     requires { (n ≤ 1000000) × (48 ≤ digit) }
     ensures { result ≡ counted (n * 10 + (digit - 48)) }
 {
-    let next = n * 10 + (digit - b'0') as usize;
-    if next < MOST { next } else { MOST }
+    (n * 10 + usize::from(digit - b'0')).min(MOST)
 }
 
 // What the digits from one place up to another come to.
+#[tactic(auto, using(crate::proofs::Texts::digit_steps), unfolding(crate::specs::Tokens::value_from))]
 fn value(text: &[u8], from: usize, end: usize) -> usize
     requires { Digits text.now from end }
     ensures { result ≡ counted (value_of (part text.now from end)) }
 {
     let mut n = 0;
-    for place in from..end {
-        n = with_digit(n, text[place]);
+    for digit in &text[from..end] {
+        n = with_digit(n, *digit);
     }
     n
 }
 
 // Spaces or none, and a whole number.
+#[tactic(auto, using(crate::proofs::Readings::numbers))]
 pub fn whole_number(text: &[u8], at: usize) -> Number
     requires { at ≤ length text.now }
     ensures { NumberRead text.now at result }
@@ -193,11 +176,10 @@ pub fn whole_number(text: &[u8], at: usize) -> Number
     let from = end_of(text, at, Class::Space);
     let end = end_of(text, from, Class::Digit);
     let value = value(text, from, end);
-    if is_plain(text, from, end) {
-        return Number { value, next: end };
-    }
-    Number {
-        value,
-        next: text.len(),
-    }
+    let next = if is_plain(text, from, end) {
+        end
+    } else {
+        text.len()
+    };
+    Number { value, next }
 }

@@ -1,53 +1,39 @@
--- The call case by case: at each check that can refuse it, and where none does. Assumes nothing.
-use Prim.Native.Nat.{ℕ, ◌-◌, ◌≤◌, ◌<◌}
+-- The whole call, from its checks up to 8 and from what follows them. Assumes nothing.
+use Prim.Native.Nat.{ℕ, zero, suc}
+use native.Mathlib.Omega.{arith}
 use mathlib.Core.Path.{◌≡◌, refl}
-use mathlib.Core.Bool.{true, false}
 use mathlib.Core.List.{List}
 use lib.ListN.{length}
 use lib.Ieee.{Float}
-use borrow.Author.Tests.{lt-ltb, le-ltb, eq-eqb, ne_eqb}
-use Rattle.floats.specs.Sums.{all_finite}
-use Rattle.refusals.specs.declared.Outcome.{Outcome}
-use Rattle.refusals.specs.Refusals.{◌then◌}
+use Rattle.std.specs.Prelude.{Err}
+use Rattle.refusals.specs.declared.Refusal.{Refusal}
+use Rattle.refusals.specs.Refusals.{◌then◌, past, Outcome, outcome_of}
 use Rattle.spline.specs.declared.Grid.{Grid}
-use Rattle.config.specs.Config.{parameters_for, carried_by}
+use Rattle.config.specs.Config.{parameters_for, sizes_of, carried_by, checked_of}
+use Rattle.admission.specs.Admission.{up_to8}
 use Rattle.layer_coefficients.specs.Coefficients.{up_to37}
-use Rattle.layer_coefficients.proofs.Answers.{Answered}
-use Rattle.npy_writing.specs.Writing.{file_length, file_of, from10_to11, write_fault, NpyWritten}
-use Rattle.npy_writing.specs.Steps.{WriteDone}
+use Rattle.layer_coefficients.proofs.Answers.{Answered, refused_to_8, done, stopped}
+use Rattle.npy_writing.specs.Writing.{file_of, from10_to11, write_fault, NpyWritten}
+use Rattle.npy_writing.specs.Steps.{from37_to11, WriteDone}
 
 module _ (ws : List ℕ) (g : Grid) (ps : List Float) (l : ℕ) (bs : List ℕ) where
-  -- ---- 37, 10, 11, and all bytes
-  pub no_layer : length ws - 1 ≤ l → WriteDone ws g ps l bs 37 bs
-  no_layer h = record { refusal = rw (le-ltb l (length ws - 1) h); file = refl }
-
-  module _ (there : l < length ws - 1) where
-    pub wrong_length : (length bs ≡ file_length ws g l → ⊥) → WriteDone ws g ps l bs 10 bs
-    unfolding from10_to11
-    wrong_length h = record {
-      refusal = rw (lt-ltb l (length ws - 1) there, ne_eqb (length bs) (file_length ws g l) h);
-      file = refl;
-    }
-
-    pub wild_model : length bs ≡ file_length ws g l → all_finite ps ≡ false → WriteDone ws g ps l bs 11 bs
-    unfolding from10_to11
-    wild_model e f = record {
-      refusal = rw (lt-ltb l (length ws - 1) there, eq-eqb (length bs) (file_length ws g l) e, f);
-      file = refl;
-    }
-
-    pub all_written : (bs' : List ℕ) → length bs ≡ file_length ws g l → all_finite ps ≡ true → bs' ≡ file_of ws g ps l
-        → WriteDone ws g ps l bs 0 bs'
-    unfolding from10_to11
-    all_written bs' e f h = record {
-      refusal = rw (lt-ltb l (length ws - 1) there, eq-eqb (length bs) (file_length ws g l) e, f);
-      file = h;
-    }
-
-  -- ---- the whole call, as one on a layer
-  pub told : {o : Outcome} {left : List ℕ}
+  -- as one on a layer
+  told : {o : Outcome} {left : List ℕ}
       → Answered (up_to37 ws g (length ps) l then from10_to11 ws g ps l (length bs))
       (carried_by (up_to37 ws g (length ps) l) (parameters_for ws g)) (file_of ws g ps l) bs o left
       → NpyWritten ws g ps l bs o left
   unfolding write_fault
   told a = record { answer = a.answer; file = a.memory }
+
+  pub refused : (r : Refusal) → checked_of (up_to8 ws g (length ps)) (sizes_of ws g) ≡ Err r
+      → NpyWritten ws g ps l bs (Err r) bs
+  refused r e = told (refused_to_8 ws g (length ps) l _ _ bs r e)
+
+  module _ (p : up_to8 ws g (length ps) ≡ 0) where
+    by_number : (n : ℕ) (left : List ℕ) → n ≡ from37_to11 ws g ps l (length bs) → left ≡ past n (file_of ws g ps l) bs
+        → NpyWritten ws g ps l bs (outcome_of n 0) left
+    by_number zero left e m = told (done ws g (length ps) l _ _ bs p 0 left e m refl)
+    by_number (suc n) left e m = told (stopped ws g (length ps) l _ _ bs p (suc n) left e m (λ z. omega (arith, z)))
+
+    pub answered : (o : Outcome) (left : List ℕ) → WriteDone ws g ps l bs o left → NpyWritten ws g ps l bs o left
+    answered o left d = rw d.answer (by_number (from37_to11 ws g ps l (length bs)) left refl d.file)

@@ -31,9 +31,6 @@ module _ {ws : List ℕ} {g : Grid} {ps : List Float} {l : ℕ} {c : Layer} {bs 
   pub here : Writable ws g ps c.index c bs
   here = subst (λ (i : ℕ). Writable ws g ps i c bs) (sym w.stands.index) w
 
-  pub told : {bs' : List ℕ} → bs' ≡ file_of ws g ps c.index → bs' ≡ file_of ws g ps l
-  told e = e ∙ ap (file_of ws g ps) w.stands.index
-
   pub sizes : SmallLayer g ps c
   sizes = small_layer w.ready w.there w.stands
 

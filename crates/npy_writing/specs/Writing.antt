@@ -1,8 +1,7 @@
 -- R18.1 to R18.3, R18.8: one layer's coefficients written as an NPY file. Definitions only.
 use Rattle.std.specs.Prelude.{ℕ, ◌+◌, ◌*◌, ◌≡◌, List, ◌++◌, eqb, length, Float}
 use Rattle.floats.specs.Sums.{all_finite}
-use Rattle.refusals.specs.declared.Outcome.{Outcome}
-use Rattle.refusals.specs.Refusals.{◌otherwise◌, ◌then◌, past, outcome_of}
+use Rattle.refusals.specs.Refusals.{Outcome, ◌otherwise◌, ◌then◌, past, outcome_of}
 use Rattle.spline.specs.declared.Grid.{Grid}
 use Rattle.layers.specs.Widths.{width_at}
 use Rattle.config.specs.Config.{parameters_for, carried_by}

@@ -1,5 +1,5 @@
-// Public crate: one layer's coefficients written as an NPY file, for NumPy. The call takes all arguments and answers, or refuses by
-// number (R3.1); one record says the answer and the bytes that it leaves.
+// Public crate: one layer's coefficients written as an NPY file, for NumPy. The call takes all arguments and answers,
+// or refuses by number (R3.1); one record says the answer and the bytes that it leaves.
 #![tactic(auto)]
 
 ghost use Rattle.std.specs.Prelude.{◌≡◌};
@@ -8,9 +8,8 @@ ghost use Rattle.npy_writing.specs.Writing.{file_of, NpyWritten};
 ghost use Rattle.npy_writing.specs.Steps.{Writable, WriteDone};
 
 use admission::check_model;
-use config::Checked;
 use layer_cursor::Layer;
-use refusals::{Outcome, Refusal};
+use refusals::{Refusal, refuse_unless};
 use spline::Grid;
 
 // All bytes, from the front: the header, and the coefficients of the layer.
@@ -29,24 +28,26 @@ fn put_file(widths: &[usize], grid: Grid, model: &[f32], layer: Layer, file: &mu
 }
 
 // Past check 8: 37, 10 and 11, and then the bytes. The model is P numbers long here.
-fn write_sound(widths: &[usize], grid: Grid, model: &[f32], layer: usize, file: &mut [u8]) -> u32
+#[tactic(auto, unfolding(crate::specs::Writing::from10_to11))]
+fn write_sound(
+    widths: &[usize],
+    grid: Grid,
+    model: &[f32],
+    layer: usize,
+    file: &mut [u8],
+) -> Result<(), Refusal>
     requires { Ready widths.now grid model.now }
     ensures { WriteDone widths.now grid model.now layer file.old result
         file.new }
 {
-    if layer >= widths.len() - 1 {
-        return 37;
-    }
+    refuse_unless(layer < widths.len() - 1, 37)?;
     let found = layer_coefficients::find_layer(widths, grid, layer);
     let edges = found.outputs * found.inputs;
-    if file.len() != npy_front::HEADER_BYTES + edges * (4 * (grid.intervals + 3)) {
-        return 10;
-    }
-    if !floats::all_finite(model) {
-        return 11;
-    }
+    let bytes = npy_front::HEADER_BYTES + edges * (4 * (grid.intervals + 3));
+    refuse_unless(file.len() == bytes, 10)?;
+    refuse_unless(floats::all_finite(model), 11)?;
     put_file(widths, grid, model, found, file);
-    0
+    Ok(())
 }
 
 // Refused in the order configuration, 8, 37, 10, 11, and then nothing is written.
@@ -56,19 +57,10 @@ pub fn write_npy(
     model: &[f32],
     layer: usize,
     file: &mut [u8],
-) -> Outcome
+) -> Result<(), Refusal>
     ensures { NpyWritten widths.now grid model.now layer file.old result
         file.new }
 {
-    let checked = check_model(widths, grid, model.len());
-    match checked {
-        Checked::Refused(refusal) => Outcome::Refused(refusal),
-        Checked::Sound(_) => {
-            let number = write_sound(widths, grid, model, layer, file);
-            if number == 0 {
-                return Outcome::Done;
-            }
-            Outcome::Refused(Refusal { number, carried: 0 })
-        }
-    }
+    check_model(widths, grid, model.len())?;
+    write_sound(widths, grid, model, layer, file)
 }

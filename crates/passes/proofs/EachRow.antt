@@ -1,4 +1,5 @@
 -- The rows of a batch, one after the other through the same two slices. Assumes nothing.
+use Rattle.std.specs.Prelude.{Ok}
 use mathlib.Core.Path.{◌≡◌, ◌∙◌}
 use mathlib.Core.Bool.{true}
 use mathlib.Core.List.{List}
@@ -8,6 +9,7 @@ use native.Mathlib.Omega.{arith}
 use lib.ListN.{length, take}
 use lib.Ieee.{Float}
 use Rattle.floats.specs.Sums.{all_finite}
+use Rattle.refusals.specs.Refusals.{Outcome, outcome_of}
 use Rattle.spline.specs.declared.Grid.{Grid}
 use Rattle.local_basis.specs.Fours.{Finite}
 use Rattle.layers.specs.Net.{Net}
@@ -49,11 +51,11 @@ pub record AtRow (g : Grid) (ps : List Float) (ws : List ℕ) (xs a₀ b₀ : Li
   pub more : r < rows_of ws xs
   pub kept : Kept ws a₀ b₀ a b
 
--- ---- after its run with the number k
-pub record RanRow (N : Net) (ps : List Float) (ws : List ℕ) (xs a₀ b₀ : List Float) (r : ℕ) (a b : List Float) (k : ℕ)
-    : Type 0 where
-  pub refusal : k ≡ refusal_at N ps ws xs r
-  pub outputs : k ≡ 0 → take (output_width ws) (holder (length ws - 1) a b) ≡ outputs_at N ps ws xs r
+-- ---- after its run with the answer k
+pub record RanRow (N : Net) (ps : List Float) (ws : List ℕ) (xs a₀ b₀ : List Float) (r : ℕ) (a b : List Float)
+    (k : Outcome) : Type 0 where
+  pub refusal : k ≡ outcome_of (refusal_at N ps ws xs r) 0
+  pub outputs : k ≡ Ok tt → take (output_width ws) (holder (length ws - 1) a b) ≡ outputs_at N ps ws xs r
   pub kept : Kept ws a₀ b₀ a b
 
 module _ {g : Grid} {ps : List Float} {ws : List ℕ} {xs a₀ b₀ : List Float} {r : ℕ} {a b : List Float}
@@ -68,7 +70,7 @@ module _ {g : Grid} {ps : List Float} {ws : List ℕ} {xs a₀ b₀ : List Float
   pub finite_all : Finite (length ps) ps
   finite_all = finite_model ps t.finite
 
-  pub ran : {N : Net} {row a' b' : List Float} {k : ℕ} → row ≡ row_at xs (input_width ws) r → length a' ≡ length a
+  pub ran : {N : Net} {row a' b' : List Float} {k : Outcome} → row ≡ row_at xs (input_width ws) r → length a' ≡ length a
       → length b' ≡ length b → Ran N ps ws row a b a' b' k → RanRow N ps ws xs a₀ b₀ r a' b' k
   ran {N} {row} {a'} {b'} {k} e la lb y =
       let z : Ran N ps ws (row_at xs (input_width ws) r) a b a' b' k = rw e at y in

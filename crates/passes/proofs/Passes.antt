@@ -10,7 +10,8 @@ use lib.Seq.{take_at, drop_at, drop-drop}
 use lib.Ieee.{Float}
 use borrow.Author.Tests.{eq-eqb, ne_eqb, eqb-true, eqb-false}
 use Rattle.floats.specs.Sums.{all_finite}
-use Rattle.floats.proofs.Loops.{front, rest, tab_length, all_each}
+use Rattle.floats.proofs.Loops.{rest, tab_length, all_each}
+use Rattle.refusals.specs.Refusals.{Outcome}
 use Rattle.local_basis.specs.Fours.{Finite}
 use Rattle.local_basis.proofs.Dots.{finite_drop}
 use Rattle.layers.specs.Basis.{Basis}
@@ -25,18 +26,10 @@ pub layer_length : (B : Basis) (ps xs : List Float) (n : ℕ) → length (layer_
 unfolding layer_of
 layer_length B ps xs n = tab_length _ n
 
-pub front_in : (B : Basis) (ps : List Float) (w n : ℕ) (from to to' : List Float)
-    → to' ≡ layer_of B ps (take (w - 0) (drop 0 from)) n ++ drop n to → to' ≡ layer_of B ps (take w from) n ++ drop n to
-front_in B ps w n from to to' p = p ∙ ap (λ (l : List Float). layer_of B ps l n ++ drop n to) (front w from)
-
--- what stands at the front then, and past it
+-- what stands at the front of a slice that it was written to
 pub taken : (B : Basis) (ps xs : List Float) (n : ℕ) (to to' : List Float) → to' ≡ layer_of B ps xs n ++ drop n to
     → take n to' ≡ layer_of B ps xs n
 taken B ps xs n to to' p = ap (take n) p ∙ take_at (layer_of B ps xs n) (drop n to) n (layer_length B ps xs n)
-
-pub fronted : (B : Basis) (ps xs : List Float) (n : ℕ) (to to' : List Float) → to' ≡ layer_of B ps xs n ++ drop n to
-    → take (n - 0) (drop 0 to') ≡ layer_of B ps xs n
-fronted B ps xs n to to' p = front n to' ∙ taken B ps xs n to to' p
 
 -- ---- a list written over the front of another: what lies past it, and the length
 pub past : (L : List Float) (n m : ℕ) (to to' : List Float) → length L ≡ n → n ≤ m → to' ≡ L ++ drop n to → drop m to' ≡ drop m to
@@ -59,7 +52,7 @@ pub record Kept (ws : List ℕ) (a₀ b₀ a b : List Float) : Type 0 where
 pub kept_all : (ws : List ℕ) (a b : List Float) → Kept ws a b a b
 kept_all ws a b = record { size_a = refl; size_b = refl; first = λ m h. refl; second = λ m h. refl }
 
-pub kept_turn : (B : Basis) (ps : List Float) (ws : List ℕ) (a₀ b₀ : List Float) (l w n : ℕ) (a b a' b' : List Float) (r : Bool)
+pub kept_turn : (B : Basis) (ps : List Float) (ws : List ℕ) (a₀ b₀ : List Float) (l w n : ℕ) (a b a' b' : List Float) (r : Outcome)
     → n ≤ length a → n ≤ length b → ((m : ℕ) → AtMost ws m → n ≤ m) → Turned B ps l w n a b a' b' r → Kept ws a₀ b₀ a b
     → Kept ws a₀ b₀ a' b'
 kept_turn B ps ws a₀ b₀ l w n a b a' b' r ra rb most t k = go (eqb (l % 2) 0) refl
@@ -85,7 +78,7 @@ kept_turn B ps ws a₀ b₀ l w n a b a' b' r ra rb most t k = go (eqb (l % 2) 0
         }
 
 -- the values that a turn writes stand at the front of the next holder
-pub turn_values : (B : Basis) (ps : List Float) (l w n : ℕ) (a b a' b' : List Float) (r : Bool) → Turned B ps l w n a b a' b' r
+pub turn_values : (B : Basis) (ps : List Float) (l w n : ℕ) (a b a' b' : List Float) (r : Outcome) → Turned B ps l w n a b a' b' r
     → take n (holder (l + 1) a' b') ≡ layer_of B ps (take w (holder l a b)) n
 turn_values B ps l w n a b a' b' r t = go (eqb (l % 2) 0) refl
   where

@@ -1,4 +1,5 @@
 -- What the checks up to 9 give to a row's way through the layers, and what a sweep behind it leaves. Assumes nothing.
+use Rattle.std.specs.Prelude.{Ok}
 use mathlib.Core.Path.{◌≡◌, sym, ap, ◌∙◌}
 use mathlib.Core.List.{List, ◌++◌}
 use Prim.Native.Nat.{ℕ, ◌≤◌}
@@ -10,7 +11,6 @@ use Rattle.spline.specs.declared.Grid.{Grid}
 use Rattle.layers.specs.Widths.{widest_in}
 use Rattle.layer_cursor.specs.Cursor.{Walkable}
 use Rattle.config.specs.declared.Sizes.{Sizes}
-use Rattle.config.specs.declared.Checked.TheVariants.{Sound}
 use Rattle.config.specs.Config.{sizes_of, checked_of}
 use Rattle.config.specs.Sized.{Sized}
 use Rattle.config.proofs.Answers.{accepted}
@@ -52,7 +52,7 @@ pub record SoundPast9 (ws : List ℕ) (g : Grid) (n a b : ℕ) (s : Sizes) : Typ
   pub widest : s.widest ≡ widest_in ws
 
 pub sound_past9 : (ws : List ℕ) (g : Grid) (n a b : ℕ) (s : Sizes)
-    → checked_of (up_to9 ws g n a b) (sizes_of ws g) ≡ Sound s → SoundPast9 ws g n a b s
+    → checked_of (up_to9 ws g n a b) (sizes_of ws g) ≡ Ok s → SoundPast9 ws g n a b s
 sound_past9 ws g n a b s e =
     let k = accepted (up_to9 ws g n a b) (sizes_of ws g) s e in
     record {

@@ -1,8 +1,7 @@
 -- R8.10: `predict_batch`, which asks each row's 14, 15, 20 before it looks at the next (R5.5). Definitions only.
 use Rattle.std.specs.Prelude.{ℕ, ◌*◌, ◌≡◌, Bool, List, ◌++◌, eqb, length, drop, Float}
 use Rattle.floats.specs.Sums.{all_finite, flat_to}
-use Rattle.refusals.specs.declared.Outcome.{Outcome}
-use Rattle.refusals.specs.Refusals.{◌otherwise◌, ◌then◌, past, outcome_of}
+use Rattle.refusals.specs.Refusals.{◌otherwise◌, ◌then◌, past, Outcome, outcome_of}
 use Rattle.spline.specs.declared.Grid.{Grid}
 use Rattle.layers.specs.Net.{Net}
 use Rattle.layers.specs.Widths.{input_width, output_width, widest_in}

@@ -1,8 +1,7 @@
 -- What the steps inside the call promise and ask: no part of its meaning. Definitions only.
 use Rattle.std.specs.Prelude.{ℕ, ◌*◌, ◌≤◌, true, ◌≡◌, List, length, Float}
 use Rattle.floats.specs.Sums.{all_finite}
-use Rattle.refusals.specs.declared.Outcome.{Outcome}
-use Rattle.refusals.specs.Refusals.{◌then◌, past, outcome_of}
+use Rattle.refusals.specs.Refusals.{◌then◌, past, Outcome, outcome_of}
 use Rattle.spline.specs.declared.Grid.{Grid}
 use Rattle.layers.specs.Net.{Net}
 use Rattle.layers.specs.Widths.{output_width}

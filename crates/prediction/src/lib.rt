@@ -10,20 +10,18 @@ ghost use Rattle.prediction.specs.Predict.{Predicted, outputs_fit, from10_to11};
 ghost use Rattle.prediction.specs.Steps.{Predictable, RowsPredicted};
 
 use admission::check_work;
-use config::Checked;
+use exponential::PowerTable;
 use layer_cursor::Layer;
-use refusals::{Outcome, Refusal};
+use refusals::{Refusal, refuse_unless};
 use spline::Grid;
 
-// 10: the outputs are as many as rows times the output width. Divided, not multiplied: the product may pass 2^64.
+// 10: the outputs are as many as rows times the output width, which may pass 2^64.
+#[tactic(auto, using(crate::proofs::Outputs::same_product), unfolding(crate::specs::Predict::outputs_fit))]
 fn outputs_fit(inputs: usize, w: usize, outputs: usize, v: usize) -> bool
-    requires { (0 < w) × (0 < v) }
+    requires { 0 < w }
     ensures { result ≡ outputs_fit w v inputs outputs }
 {
-    if outputs % v == 0 {
-        return outputs / v == batches::rows_in(inputs, w);
-    }
-    false
+    batches::rows_in(inputs, w).checked_mul(v) == Some(outputs)
 }
 
 // The last layer's values, from the slice that holds them to the front of `outputs`.
@@ -33,13 +31,14 @@ fn copy_outputs(layers: usize, v: usize, first: &[f32], second: &[f32], outputs:
         outputs.old }
 {
     if layers % 2 == 0 {
-        floats::copy(&second[0..v], outputs);
+        floats::copy(&second[..v], outputs);
     } else {
-        floats::copy(&first[0..v], outputs);
+        floats::copy(&first[..v], outputs);
     }
 }
 
-// Rows in order, up to the first that is refused. No check is left before them: hence 0 and 0 in the promise.
+// Rows in order, up to the first that is refused, whose refusal carries its number. No check is left before them: hence
+// 0 and 0 in the promise. By index, since a proof learns nothing of what is written through chunks_mut.
 fn predict_rows(
     grid: Grid,
     widths: &[usize],
@@ -49,7 +48,7 @@ fn predict_rows(
     first: &mut [f32],
     second: &mut [f32],
     outputs: &mut [f32],
-) -> Outcome
+) -> Result<(), Refusal>
     requires { Predictable grid model.now widths.now inputs.now first.old second.old outputs.old rows }
     ensures { RowsPredicted (net_of grid) model.now widths.now inputs.now 0 0
         first.old second.old outputs.old result first.new second.new
@@ -58,10 +57,10 @@ fn predict_rows(
     let layers = widths.len() - 1;
     let w = widths[0];
     let v = widths[layers];
-    let table = exponential::scaled_powers();
+    let table = PowerTable::new();
     let start = Layer::first(widths, grid);
     for r in 0..rows {
-        let number = passes::run_row(
+        passes::run_row(
             start,
             grid,
             &table,
@@ -70,18 +69,19 @@ fn predict_rows(
             batches::row(inputs, w, r),
             first,
             second,
-        );
-        if number != 0 {
-            return Outcome::Refused(Refusal { number, carried: r });
-        }
+        )
+        .map_err(|refusal| Refusal {
+            carried: r,
+            ..refusal
+        })?;
         let at = r * v;
         copy_outputs(layers, v, first, second, &mut outputs[at..]);
     }
-    Outcome::Done
+    Ok(())
 }
 
 // Past check 9: 10, 11, and then the rows.
-#[tactic(auto, using(crate::proofs::Calls::outputs_room, passes::proofs::EachRow::wide_rows))]
+#[tactic(auto, using(crate::proofs::Calls::outputs_room, crate::proofs::Calls::rows_run, passes::proofs::EachRow::wide_rows), unfolding(crate::specs::Predict::from10_to11))]
 fn predict_sound(
     grid: Grid,
     widths: &[usize],
@@ -90,7 +90,7 @@ fn predict_sound(
     first: &mut [f32],
     second: &mut [f32],
     outputs: &mut [f32],
-) -> Outcome
+) -> Result<(), Refusal>
     requires { Fits grid model.now widths.now first.old second.old }
     ensures { RowsPredicted (net_of grid) model.now widths.now inputs.now
         (from10_to11 widths.now model.now inputs.now (length outputs.old))
@@ -101,19 +101,8 @@ fn predict_sound(
     let layers = widths.len() - 1;
     let w = widths[0];
     let fit = outputs_fit(inputs.len(), w, outputs.len(), widths[layers]);
-    let finite = floats::all_finite(model);
-    if !fit {
-        return Outcome::Refused(Refusal {
-            number: 10,
-            carried: 0,
-        });
-    }
-    if !finite {
-        return Outcome::Refused(Refusal {
-            number: 11,
-            carried: 0,
-        });
-    }
+    refuse_unless(fit, 10)?;
+    refuse_unless(floats::all_finite(model), 11)?;
     let rows = batches::rows_in(inputs.len(), w);
     predict_rows(grid, widths, model, inputs, rows, first, second, outputs)
 }
@@ -127,20 +116,14 @@ pub fn predict_batch(
     first: &mut [f32],
     second: &mut [f32],
     outputs: &mut [f32],
-) -> Outcome
+) -> Result<(), Refusal>
     ensures { Predicted (net_of grid) widths.now grid model.now inputs.now
         first.old second.old outputs.old result first.new second.new
         outputs.new }
 {
-    let checked = check_work(widths, grid, model.len(), first.len(), second.len());
-    match checked {
-        Checked::Refused(refusal) => Outcome::Refused(refusal),
-        Checked::Sound(sizes) => {
-            let answer = predict_sound(grid, widths, model, inputs, first, second, outputs);
-            let widest = sizes.widest;
-            floats::clear(first, widest);
-            floats::clear(second, widest);
-            answer
-        }
-    }
+    let sizes = check_work(widths, grid, model.len(), first.len(), second.len())?;
+    let answer = predict_sound(grid, widths, model, inputs, first, second, outputs);
+    floats::clear(first, sizes.widest);
+    floats::clear(second, sizes.widest);
+    answer
 }

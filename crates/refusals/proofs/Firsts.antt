@@ -1,4 +1,5 @@
 -- Laws of "the first refusal": of two checks, and of many. Assumes nothing.
+use Rattle.std.specs.Prelude.{Ok, Err}
 use mathlib.Core.Path.{◌≡◌, refl, sym}
 use mathlib.Core.Bool.{Bool, true, false}
 use mathlib.Core.Logic.{⊎_elim}
@@ -7,7 +8,7 @@ use native.Mathlib.Nat.{eq-or-lt_of_le}
 use native.Mathlib.Numerals.{add-one}
 use native.Mathlib.Omega.{arith}
 use borrow.Author.Tests.{ne_eqb}
-use Rattle.refusals.specs.declared.Outcome.TheVariants.{Done}
+use Rattle.refusals.specs.declared.Refusal.{Refusal}
 use Rattle.refusals.specs.Refusals.{◌otherwise◌, ◌then◌, first_to, done_to, past, outcome_of}
 
 -- ---- one check, and one after the other
@@ -38,10 +39,15 @@ pub past_stopped : {A : Type 0} (n : ℕ) (new old : A) → (n ≡ 0 → ⊥) �
 past_stopped zero new old h = absurd (h refl)
 past_stopped (suc n) new old h = refl
 
--- an answer that is `Done` has no refusal
-pub not_refused : (n c : ℕ) → outcome_of n c ≡ Done → n ≡ 0
+-- an answer that is `Ok` has no refusal
+pub not_refused : (n c : ℕ) → outcome_of n c ≡ Ok tt → n ≡ 0
 not_refused zero c e = refl
 not_refused (suc n) c e = let z : ◌≡◌ {A = ℕ} 0 1 = cc in absurd (omega arith)
+
+-- and one that is `Err` has one
+pub refused : (n c : ℕ) (r : Refusal) → outcome_of n c ≡ Err r → n ≡ 0 → ⊥
+refused zero c r e z = let o : ◌≡◌ {A = ℕ} 0 1 = cc in absurd (omega arith)
+refused (suc n) c r e z = absurd (omega (arith, z))
 
 -- ---- the first of many
 pub first_none : (f : ℕ → ℕ) → first_to f 0 ≡ 0
@@ -65,6 +71,11 @@ first_stop f r zero h p q = absurd (omega arith)
 first_stop f r (suc n) h p q =
     ⊎_elim (λ (e : r ≡ n). rw (← e, p)) (λ l. rw (first_stop f r n l p q) (sym (then_first (f r) (f n) q)))
     (eq-or-lt_of_le (omega arith))
+
+-- a call that goes through many and stops at number r answers with its refusal
+pub stops_at : (f : ℕ → ℕ) (r n c : ℕ) (e : Refusal) → r < n → first_to f r ≡ 0 → outcome_of (f r) c ≡ Err e
+    → Err e ≡ outcome_of (first_to f n) c
+stops_at f r n c e h p q = rw (first_stop f r n h p (refused (f r) c e q)) (sym q)
 
 pub first_clear : (f : ℕ → ℕ) (n : ℕ) → first_to f n ≡ 0 → (r : ℕ) → r < n → f r ≡ 0
 unfolding first_to

@@ -1,9 +1,8 @@
 -- R3.3: the first refusal in a stated order: the one idiom in which all checks are written. A check's refusal is its
 -- number, 0 where the check passes. Definitions only.
-use Rattle.std.specs.Prelude.{ℕ, zero, suc, Bool, true, false, cond, eqb}
+use Rattle.std.specs.Prelude.{ℕ, zero, suc, Bool, true, false, cond, eqb, ⊤, Ok, Err}
+use Rattle.std.specs.declared.result.Result.{Result}
 use Rattle.refusals.specs.declared.Refusal.{Refusal}
-use Rattle.refusals.specs.declared.Outcome.{Outcome}
-use Rattle.refusals.specs.declared.Outcome.TheVariants.{Done, Refused}
 
 infix 30 ◌otherwise◌
 infixr 20 ◌then◌
@@ -31,14 +30,26 @@ abbrev pub past : {A : Type 0} → ℕ → A → A → A
 past zero new old = new
 past (suc n) new old = old
 
--- ---- R3.2: the answer of a call that gives nothing but what it wrote, and the refusal that it is, number 0 for none
+-- ---- R3.2: a call answers with what it gives, or with its refusal; number 0 stands for none
+abbrev pub plain : ℕ → Refusal
+plain n = record { number = n; carried = 0 }
+
 abbrev pub none : Refusal
-none = record { number = 0; carried = 0 }
+none = plain 0
+
+-- the answer of a call: what it gives where its checks come to 0, and otherwise their number with what it carries
+abbrev pub answer_of : {A : Type 0} → ℕ → ℕ → A → Result A Refusal
+answer_of zero carried answer = Ok answer
+answer_of (suc n) carried answer = Err (record { number = suc n; carried = carried })
+
+-- the same of a call that gives nothing but what it wrote
+abbrev pub Outcome : Type 0
+Outcome = Result ⊤ Refusal
 
 abbrev pub outcome_of : ℕ → ℕ → Outcome
-outcome_of zero carried = Done
-outcome_of (suc n) carried = Refused (record { number = suc n; carried = carried })
+outcome_of n carried = answer_of n carried tt
 
-abbrev pub outcome_refusal : Outcome → Refusal
-outcome_refusal Done = none
-outcome_refusal (Refused r) = r
+-- the refusal that an answer is
+abbrev pub refusal_of : {A : Type 0} → Result A Refusal → Refusal
+refusal_of (Ok answer) = none
+refusal_of (Err r) = r

@@ -2,31 +2,33 @@
 use mathlib.Core.Path.{◌≡◌, refl, ◌∙◌, ap}
 use mathlib.Core.Bool.{Bool, true, false, cond}
 use mathlib.Core.List.{List, [], ◌∷◌}
-use Prim.Native.Nat.{ℕ, suc, ◌+◌, ◌-◌, ◌<◌, ◌≤◌}
-use native.Mathlib.Numerals.{add-one}
+use Prim.Native.Nat.{ℕ, suc, ◌≤◌}
 use native.Mathlib.Omega.{arith}
 use lib.Dec.{eqb}
-use lib.ListN.{length, get_or, take, drop, length-drop, drop_of_length-le}
-use lib.Seq.{drop-cons, take_all}
-use borrow.Author.Tests.{eq-eqb, ne_eqb}
-use Rattle.replay.specs.Lines.{before_of, parts_of, onto, word_of, in_front, words_of, after_tag}
+use lib.ListN.{length, take, drop}
+use Rattle.std.specs.List.{position, position_or_len}
+use Rattle.std.specs.Option.{unwrap_or}
+use Rattle.std.proofs.lemmas.List.Sums.{prefix_len-le-length}
+use Rattle.std.proofs.lemmas.Bool.Decides.{nat_tests}
+use Rattle.std.proofs.Common.{Some, None, not, sym, ltb}
+use Rattle.std.proofs.lemmas.List.Recursion.{is_position_or_len}
+use Rattle.replay.specs.Lines.{Before, before_of, parts_of, onto, word_of, in_front, words_of, after_tag}
 
--- a part that runs to the end
-pub to_end : (n : ℕ) (l : List ℕ) → take (length l - n) (drop n l) ≡ drop n l
-to_end n l = take_all (length l - n) (drop n l) (omega (arith, length-drop n l))
-
-module _ (text : List ℕ) (mark n : ℕ) (h : n < length text) where
-  pub mark_here : get_or text n 0 ≡ mark → before_of mark (drop n text) ≡ 0
-  unfolding before_of
-  mark_here e = rw (drop-cons text n 0 h, eq-eqb (get_or text n 0) mark e)
-
-  pub mark_later : (get_or text n 0 ≡ mark → ⊥) → before_of mark (drop n text) ≡ suc (before_of mark (drop (n + 1) text))
-  unfolding before_of
-  mark_later e = rw (add-one, drop-cons text n 0 h, ne_eqb (get_or text n 0) mark e)
-
-pub mark_nowhere : (text : List ℕ) (mark n : ℕ) → length text ≤ n → before_of mark (drop n text) ≡ 0
+-- the first mark, as std finds it
+before_is : (mark : ℕ) (text : List ℕ) → before_of mark text ≡ position_or_len (λ b. eqb b mark) text
 unfolding before_of
-mark_nowhere text mark n h = rw (drop_of_length-le text h)
+before_is mark text =
+    is_position_or_len (before_of mark) (λ b. eqb b mark) refl (λ b bs. ap (λ n. cond (eqb b mark) 0 n) (omega arith)) text
+
+place_or : (n k : ℕ) → n ≤ k → unwrap_or (cond (ltb n k) (Some n) None) k ≡ n
+place_or n k h = grind (arith, nat_tests)
+
+pub first_mark : (mark : ℕ) (text : List ℕ) → Before text mark (unwrap_or (position (λ b. eqb b mark) text) (length text))
+first_mark mark text =
+    let p : ℕ → Bool = λ b. eqb b mark in
+    let within = prefix_len-le-length (λ b. not (p b)) text in
+    let place = place_or (position_or_len p text) (length text) within in
+    record { within = rw place within; first = place ∙ sym (before_is mark text) }
 
 -- the parts after a part: none at the end, and else those behind the space
 unfoldable pub later : List ℕ → List (List ℕ)

@@ -1,31 +1,17 @@
 -- Digits read one by one. Assumes nothing.
 use mathlib.Core.Path.{◌≡◌, refl, ◌∙◌}
-use mathlib.Core.Bool.{Bool, true, false, cond, ◌&&◌}
+use mathlib.Core.Bool.{true, false}
 use mathlib.Core.List.{List}
-use Prim.Native.Nat.{ℕ, ◌+◌, ◌-◌, ◌*◌, ◌^◌, ◌<◌, ◌≤◌}
+use Prim.Native.Nat.{ℕ, ◌+◌, ◌*◌, ◌^◌, ◌<◌, ◌≤◌}
 use native.Mathlib.Numerals.{add-one}
 use native.Mathlib.Nat.{pow-suc, pow-le-pow_right}
 use native.Mathlib.Omega.{arith}
-use lib.Dec.{T, leb, leb→le, lit<, lit≤}
-use lib.Ieee.Fits.{and_r}
+use lib.Dec.{lit<}
 use lib.ListN.{length, get_or, drop, drop_of_length-le}
 use lib.Seq.{drop-cons}
 use borrow.Author.Tests.{eq-eqb, ne_eqb, lt-ltb, le-ltb}
-use Rattle.replay.specs.declared.Word.TheVariants.{Number, Other}
+use Rattle.std.specs.Prelude.{Some, None}
 use Rattle.replay.specs.Lines.{digit_of, digits_only, worth, word_of}
-
-pick_most : (t : Bool) (x y : ℕ) → (T t → x ≤ 16) → y ≤ 16 → cond t x y ≤ 16
-pick_most true x y h k = h tt
-pick_most false x y h k = k
-
-pub digit_most : (b : ℕ) → digit_of b ≤ 16
-unfolding digit_of
-digit_most b =
-    let letters =
-    pick_most (leb 97 b && leb b 102) (b - 87) 16 (λ t. omega (arith, leb→le b 102 (and_r (leb 97 b) (leb b 102) t)))
-    (lit≤ tt) in
-    pick_most (leb 48 b && leb b 57) (b - 48) _ (λ t. omega (arith, leb→le b 57 (and_r (leb 48 b) (leb b 57) t)))
-    letters
 
 -- i digits are read, and stand for `number`
 pub record Read (text : List ℕ) (number i : ℕ) : Type 0 where
@@ -66,21 +52,21 @@ module _ {text : List ℕ} {number i : ℕ} (r : Read text number i) where
   read_all h = (r.digits ∙ rw (drop_of_length-le text h), r.value ∙ rw (drop_of_length-le text h))
 
 -- which case of a word's definition holds
-pub word_none : (text : List ℕ) → length text ≡ 0 → Other ≡ word_of text
+pub word_none : (text : List ℕ) → length text ≡ 0 → None ≡ word_of text
 unfolding word_of
 word_none text e = rw (eq-eqb (length text) 0 e)
 
-pub word_long : (text : List ℕ) → 16 < length text → Other ≡ word_of text
+pub word_long : (text : List ℕ) → 16 < length text → None ≡ word_of text
 unfolding word_of
 word_long text h =
     let n : length text ≡ 0 → ⊥ = λ q. omega arith in
     rw (ne_eqb (length text) 0 n, lt-ltb 16 (length text) h)
 
 module _ (text : List ℕ) (some : length text ≡ 0 → ⊥) (most : length text ≤ 16) where
-  pub word_other : digits_only text ≡ false → Other ≡ word_of text
+  pub word_other : digits_only text ≡ false → None ≡ word_of text
   unfolding word_of
   word_other e = rw (ne_eqb (length text) 0 some, le-ltb 16 (length text) most, e)
 
-  pub word_number : (number : ℕ) → digits_only text ≡ true → worth 0 text ≡ number → Number number ≡ word_of text
+  pub word_number : (number : ℕ) → digits_only text ≡ true → worth 0 text ≡ number → Some number ≡ word_of text
   unfolding word_of
   word_number number e v = rw (ne_eqb (length text) 0 some, le-ltb 16 (length text) most, e, v)

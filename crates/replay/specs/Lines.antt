@@ -1,11 +1,9 @@
 -- The lines of a list of cases: a tag and hexadecimal words, one space between. A line ends at an LF (10), a comment
 -- begins with # (35), and a space is 32. Definitions only.
-use Rattle.std.specs.Prelude.{◌≡◌, Bool, true, false, cond, ◌&&◌, ◌||◌, List, [], ◌∷◌, ℕ, suc, ◌+◌, ◌-◌, ◌*◌, ◌≤◌, eqb, ltb, leb, length, take, drop}
-use Rattle.std.proofs.Math.Option.{Option, none, some}
+use Rattle.std.specs.Prelude.{◌≡◌, Bool, true, false, cond, ◌&&◌, ◌||◌, List, [], ◌∷◌, ℕ, suc, ◌+◌, ◌-◌, ◌*◌, ◌≤◌, eqb, ltb, leb, length, take, drop, Some, None}
+use Rattle.std.specs.declared.option.Option.{Option}
 use Rattle.replay.specs.declared.Line.{Line}
 use Rattle.replay.specs.declared.Line.TheVariants.{Words, Skipped, Malformed}
-use Rattle.replay.specs.declared.Word.{Word}
-use Rattle.replay.specs.declared.Word.TheVariants.{Number, Other}
 
 -- how many bytes stand before the first mark
 unfoldable pub before_of : ℕ → List ℕ → ℕ
@@ -54,35 +52,35 @@ worth v [] = v
 worth v (b ∷ bs) = worth (v * 16 + digit_of b) bs
 
 -- a word: 1 to 16 digits
-unfoldable pub word_of : List ℕ → Word
+unfoldable pub word_of : List ℕ → Option ℕ
 unfolding digits_only worth
 word_of text =
-    cond (eqb (length text) 0) Other
-    (cond (ltb 16 (length text)) Other
-    (cond (digits_only text) (Number (worth 0 text)) Other))
+    cond (eqb (length text) 0) None
+    (cond (ltb 16 (length text)) None
+    (cond (digits_only text) (Some (worth 0 text)) None))
 
 -- a word more in front of others; none where it is no word, or they are not
-unfoldable pub in_front : Word → Option (List ℕ) → Option (List ℕ)
-in_front (Number v) (some vs) = some (v ∷ vs)
-in_front (Number v) none = none
-in_front Other vs = none
+unfoldable pub in_front : Option ℕ → Option (List ℕ) → Option (List ℕ)
+in_front (Some v) (Some vs) = Some (v ∷ vs)
+in_front (Some v) None = None
+in_front None vs = None
 
 -- the words that stand between spaces, if each is one
 unfoldable pub words_of : List (List ℕ) → Option (List ℕ)
 unfolding in_front word_of
-words_of [] = some []
+words_of [] = Some []
 words_of (p ∷ ps) = in_front (word_of p) (words_of ps)
 
 -- after the tag: nothing, or a space and the words
 unfoldable pub after_tag : List ℕ → Option (List ℕ)
 unfolding words_of parts_of
-after_tag [] = some []
-after_tag (b ∷ bs) = cond (eqb b 32) (words_of (parts_of bs)) none
+after_tag [] = Some []
+after_tag (b ∷ bs) = cond (eqb b 32) (words_of (parts_of bs)) None
 
 -- a tag and its words, where there is room for so many
 unfoldable pub counted : ℕ → ℕ → Option (List ℕ) → Line
-counted room tag none = Malformed
-counted room tag (some vs) = cond (leb (length vs) room) (Words tag (length vs)) Malformed
+counted room tag None = Malformed
+counted room tag (Some vs) = cond (leb (length vs) room) (Words tag (length vs)) Malformed
 
 -- a blank line or a comment, or a letter and its words
 unfoldable pub line_of : ℕ → List ℕ → Line
@@ -99,7 +97,7 @@ count_of Malformed = 0
 pub record Answered (expected : Line) (rest lent after : List ℕ) (r : Line) : Type 0 where
   pub within : count_of r ≤ length lent
   pub answer : r ≡ expected
-  pub words : (tag n : ℕ) → r ≡ Words tag n → after_tag rest ≡ some (take n after)
+  pub words : (tag n : ℕ) → r ≡ Words tag n → after_tag rest ≡ Some (take n after)
 
 -- of what follows a tag, and of a whole line
 abbrev pub Tagged : ℕ → List ℕ → List ℕ → List ℕ → Line → Type 0

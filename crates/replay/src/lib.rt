@@ -3,37 +3,27 @@
 // between.
 #![tactic(auto)]
 
-ghost use Rattle.std.specs.Prelude.{◌≡◌, ◌≤◌, length};
+ghost use Rattle.std.specs.Prelude.{◌≡◌, ◌≤◌, ◌<◌, length, MatchOption};
 ghost use Rattle.replay.specs.Floats.{float_of, same_bits};
-ghost use Rattle.replay.specs.Lines.{Before, LineEnd, digit_of, letter_of, word_of, Tagged, Parsed};
+ghost use Rattle.replay.specs.Lines.{Before, LineEnd, digit_of, word_of, Tagged, Parsed};
+
+use std::num::{f32_from_bits_with_nan, f32_to_bits_with_nan};
 
 // What a line is. Its words are at the start of the slice that was lent.
-#[derive(Clone, Copy)]
+#[derive(Clone, Copy, Debug, PartialEq, Eq)]
 pub enum Line {
     Words { tag: u8, count: usize },
     Skipped,
     Malformed,
 }
 
-// What stands between two spaces.
-#[derive(Clone, Copy)]
-pub enum Word {
-    Number(u64),
-    Other,
-}
-
 // How many bytes stand before the first `mark`; all of them where there is none.
 fn bytes_before(text: &[u8], mark: u8) -> usize
     ensures { Before text.now mark result }
 {
-    let mut n = 0;
-    while n < text.len() {
-        if text[n] == mark {
-            return n;
-        }
-        n += 1;
-    }
-    n
+    text.iter()
+        .position(|byte| *byte == mark)
+        .unwrap_or(text.len())
 }
 
 // Where the line that begins at `from` ends: at its LF, or with the text.
@@ -44,110 +34,84 @@ pub fn line_end(text: &[u8], from: usize) -> usize
     from + bytes_before(&text[from..], b'\n')
 }
 
-// What a hexadecimal digit stands for; 16 for any other byte.
-fn digit(byte: u8) -> u64
-    ensures { result ≡ digit_of byte }
+// What a hexadecimal digit stands for.
+#[tactic(auto, unfolding(crate::specs::Lines::digit_of))]
+fn digit(byte: u8) -> Option<u64>
+    ensures { MatchOption result (digit_of byte ≡ 16) (λ d. (d ≡ digit_of byte) × (d < 16)) }
 {
     match byte {
-        b'0'..=b'9' => (byte - 48) as u64,
-        b'a'..=b'f' => (byte - 87) as u64,
-        _ => 16,
+        b'0'..=b'9' => Some(u64::from(byte - b'0')),
+        b'a'..=b'f' => Some(u64::from(byte - b'a') + 10),
+        _ => None,
     }
 }
 
-fn is_letter(byte: u8) -> bool
-    ensures { result ≡ letter_of byte }
-{
-    match byte {
-        b'A'..=b'Z' => true,
-        b'a'..=b'z' => true,
-        _ => false,
-    }
-}
-
-fn hex_word(text: &[u8]) -> Word
+#[tactic(auto, using(crate::proofs::Digits::word_none, crate::proofs::Digits::word_long, crate::proofs::Digits::word_other, crate::proofs::Digits::word_number, crate::proofs::Digits::read_none, crate::proofs::Digits::read_other, crate::proofs::Digits::read_all, crate::proofs::Digits::word_room))]
+fn hex_word(text: &[u8]) -> Option<u64>
     ensures { result ≡ word_of text.now }
 {
-    if text.len() == 0 {
-        return Word::Other;
-    }
-    if 16 < text.len() {
-        return Word::Other;
+    if text.is_empty() || 16 < text.len() {
+        return None;
     }
     let mut number = 0;
-    let mut i = 0;
-    while i < text.len() {
-        let d = digit(text[i]);
-        if d == 16 {
-            return Word::Other;
-        }
-        number = number * 16 + d;
-        i += 1;
+    for byte in text {
+        number = number * 16 + digit(*byte)?;
     }
-    Word::Number(number)
+    Some(number)
 }
 
 // What follows a tag: words, each behind one space.
+#[tactic(auto, using(crate::proofs::Words::taken_none, crate::proofs::Words::taken_other))]
 fn tagged(tag: u8, rest: &[u8], words: &mut [u64]) -> Line
     ensures { Tagged tag rest.now words.old words.new result }
 {
-    let mut at = 0;
+    let mut left = rest;
     let mut count = 0;
-    while at < rest.len() {
-        if rest[at] != b' ' {
+    while let Some((mark, behind)) = left.split_first() {
+        if *mark != b' ' || count == words.len() {
             return Line::Malformed;
         }
-        if count == words.len() {
-            return Line::Malformed;
-        }
-        let start = at + 1;
-        let end = start + bytes_before(&rest[start..], b' ');
-        let Word::Number(number) = hex_word(&rest[start..end]) else {
+        let (word, after) = behind.split_at(bytes_before(behind, b' '));
+        let Some(number) = hex_word(word) else {
             return Line::Malformed;
         };
         words[count] = number;
         count += 1;
-        at = end;
+        left = after;
     }
     Line::Words { tag, count }
 }
 
 // A line without its LF. One of more words than there is room for is malformed.
+#[tactic(auto, using(crate::proofs::Words::skipped, crate::proofs::Words::malformed), unfolding(crate::specs::Lines::line_of, crate::specs::Lines::letter_of))]
 pub fn parse_line(line: &[u8], words: &mut [u64]) -> Line
     ensures { Parsed line.now words.old words.new result }
 {
-    if line.len() == 0 {
+    let Some((tag, rest)) = line.split_first() else {
         return Line::Skipped;
+    };
+    match *tag {
+        b'#' => Line::Skipped,
+        b'A'..=b'Z' | b'a'..=b'z' => tagged(*tag, rest, words),
+        _ => Line::Malformed,
     }
-    let tag = line[0];
-    if tag == b'#' {
-        return Line::Skipped;
-    }
-    if !is_letter(tag) {
-        return Line::Malformed;
-    }
-    tagged(tag, &line[1..], words)
 }
 
 // The f32 of a pattern of 32 bits, and a NaN for a NaN's pattern or a number that is no pattern.
+#[tactic(auto, using(crate::proofs::Patterns::nan_read), unfolding(crate::specs::Floats::float_of))]
 pub fn float_of(bits: u64) -> f32
     ensures { result ≡ float_of bits }
 {
-    if 4294967296 <= bits {
-        return 0.0 / 0.0;
+    match u32::try_from(bits) {
+        Ok(pattern) => f32_from_bits_with_nan(pattern),
+        Err(_) => f32::NAN,
     }
-    if 0x7f80_0000 < bits % 0x8000_0000 {
-        return 0.0 / 0.0;
-    }
-    f32::from_bits(bits as u32)
 }
 
 // Whether x has this pattern. A NaN's pattern is the machine's own affair, and a list writes every NaN as 7fc00000.
+#[tactic(auto, unfolding(crate::specs::Floats::same_bits))]
 pub fn same_bits(x: f32, bits: u64) -> bool
     ensures { result ≡ same_bits x bits }
 {
-    if x != x {
-        return bits == 0x7fc0_0000;
-    }
-    bits == f32::to_bits(x) as u64
+    bits == u64::from(f32_to_bits_with_nan(x))
 }

@@ -3,3 +3,4 @@ pub mod Slots
 pub mod Spans
 pub mod Ups
 pub mod Values
+pub mod Tests

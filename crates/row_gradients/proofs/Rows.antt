@@ -1,5 +1,6 @@
 -- A row's gradient as a whole: made of values and gradients in their places, its length, sums with it that are never
 -- -0.0, and a row's way there and back. Assumes nothing.
+use Rattle.std.specs.Prelude.{Ok, Err}
 use mathlib.Core.Path.{◌≡◌, refl, sym, ap, ◌∙◌}
 use mathlib.Core.Bool.{Bool, true, false}
 use mathlib.Core.List.{List}
@@ -10,6 +11,8 @@ use lib.ListN.{length, take, drop}
 use lib.Ieee.{Float}
 use Rattle.floats.specs.Sums.{flat_to}
 use Rattle.floats.proofs.Loops.{tab_length}
+use Rattle.refusals.specs.declared.Refusal.{Refusal}
+use Rattle.refusals.proofs.Firsts.{test_passes, not_refused}
 use Rattle.spline.specs.declared.Grid.{Grid}
 use Rattle.layers.specs.Net.{Net, net_of, basis_at}
 use Rattle.layers.specs.Widths.{width_at, parameters_in}
@@ -25,6 +28,7 @@ use Rattle.row_gradients.specs.Calls.{two_n, WorkFits, Nodes, NodesFilled, RowTa
 use Rattle.row_gradients.specs.Steps.{Ups, Backed, slots_in}
 use Rattle.row_gradients.proofs.Slots.{flat_params}
 use Rattle.row_gradients.proofs.Spans.{refit}
+use Rattle.row_gradients.proofs.Tests.{test_fails}
 use Rattle.row_gradients.proofs.Ups.{back_length}
 use Rattle.row_gradients.proofs.Values.{row_front, further}
 
@@ -62,11 +66,11 @@ module _ (N : Net) (ps : List Float) (ws : List ℕ) (xs ts : List Float) (scale
 
 -- ---- after the way forward: a row with a value that is not finite adds nothing
 pub stopped : {N : Net} {ps : List Float} {ws : List ℕ} {xs ts : List Float} {scale : Float} {add : Bool}
-    {gs W W' : List Float} {r : Bool} → r ≡ false → NodesFilled N ps ws xs W W' r
-    → RowTaken N ps ws xs ts scale add gs W gs W' false
-stopped e y = record {
-  finite = sym e ∙ y.finite;
-  gradients = refl;
+    {gs W W' : List Float} {e : Refusal} → NodesFilled N ps ws xs W W' (Err e)
+    → RowTaken N ps ws xs ts scale add gs W gs W' (Err e)
+stopped y = record {
+  answer = y.answer;
+  gradients = rw (test_fails _ 20 0 _ (sym y.answer));
   rest = further y;
 }
 
@@ -78,14 +82,14 @@ pub record RowPassed (g : Grid) (ps : List Float) (ws : List ℕ) (xs W W' : Lis
   pub front : take (width_at ws 0) W' ≡ xs
   pub rest : drop (two_n ws) W' ≡ drop (two_n ws) W
 
-pub passed : {g : Grid} {ps : List Float} {ws : List ℕ} {xs W W' : List Float} {r : Bool} → WorkFits g ps ws W
-    → length W' ≡ length W → r ≡ true → NodesFilled (net_of g) ps ws xs W W' r → RowPassed g ps ws xs W W'
-passed f size e y =
-    let nodes = y.nodes e in
+pub passed : {g : Grid} {ps : List Float} {ws : List ℕ} {xs W W' : List Float} → WorkFits g ps ws W
+    → length W' ≡ length W → NodesFilled (net_of g) ps ws xs W W' (Ok tt) → RowPassed g ps ws xs W W'
+passed f size y =
+    let nodes = y.nodes refl in
     let still = refit f size in
     record {
       fits = still;
-      finite = sym y.finite ∙ e;
+      finite = test_passes _ 19 (not_refused _ 0 (sym y.answer));
       nodes = nodes;
       front = row_front still nodes;
       rest = further y;
@@ -98,18 +102,18 @@ module _ {g : Grid} {ps : List Float} {ws : List ℕ} {xs W W' : List Float} (t 
 
   -- there, and no further
   pub only_tested : {ts : List Float} {scale : Float} {add : Bool} {gs : List Float} → add ≡ false
-      → RowTaken (net_of g) ps ws xs ts scale add gs W gs W' true
-  only_tested e = record { finite = sym t.finite; gradients = rw e; rest = t.rest }
+      → RowTaken (net_of g) ps ws xs ts scale add gs W gs W' (Ok tt)
+  only_tested e = record { answer = rw t.finite; gradients = rw (t.finite, e); rest = t.rest }
 
   -- there and back, and every layer's part added
   pub added : {ts : List Float} {scale : Float} {add : Bool} {gs gs' W'' : List Float} → add ≡ true
       → Backed (net_of g) ps ws (take (width_at ws 0) W') ts scale W' W''
       → gs' ≡ plus_of gs (flat_to (slots_in (net_of g) ps ws W'') (length ws - 1))
-      → RowTaken (net_of g) ps ws xs ts scale add gs W gs' W'' true
+      → RowTaken (net_of g) ps ws xs ts scale add gs W gs' W'' (Ok tt)
   added {ts} {scale} {gs = gs} {gs'} {W''} e y p =
       let back : Backed (net_of g) ps ws xs ts scale W' W'' = rw t.front at y in
       record {
-        finite = sym t.finite;
-        gradients = rw e (p ∙ ap (plus_of gs) (row_slots_lem (net_of g) ps ws xs ts scale W'' back.nodes back.ups));
+        answer = rw t.finite;
+        gradients = rw (t.finite, e) (p ∙ ap (plus_of gs) (row_slots_lem (net_of g) ps ws xs ts scale W'' back.nodes back.ups));
         rest = back.rest ∙ t.rest;
       }

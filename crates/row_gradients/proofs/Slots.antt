@@ -1,6 +1,6 @@
 -- All layers' parts one after the other, as the work has them: where a walk stands that adds them, and one layer more.
 -- Assumes nothing.
-use mathlib.Core.Path.{◌≡◌, refl, sym, subst, ap, ◌∙◌}
+use mathlib.Core.Path.{◌≡◌, refl, sym, ap, ◌∙◌}
 use mathlib.Core.List.{List}
 use Prim.Native.Nat.{ℕ, zero, suc, ◌+◌, ◌-◌, ◌*◌, ◌≤◌, ◌<◌}
 use native.Mathlib.Numerals.{add-one}
@@ -27,7 +27,7 @@ use Rattle.fast_gradients.specs.Adding.{Clean, Gradients}
 use Rattle.fast_gradients.proofs.Clean.{flat_held, layer_held, clean_plus, clean_part}
 use Rattle.row_gradients.specs.Calls.{two_n, WorkFits}
 use Rattle.row_gradients.specs.Steps.{up_at, slots_in}
-use Rattle.row_gradients.proofs.Spans.{Lies, lies, parameters, next_node}
+use Rattle.row_gradients.proofs.Spans.{Lies, lies, parameters, next_node, last_nodes}
 
 -- parts as long as the layers are as long together as the layers
 pub flat_params : (per : ℕ) (ws : List ℕ) (f : ℕ → List Float) (n : ℕ)
@@ -59,16 +59,11 @@ pub record Summed (g : Grid) (ps : List Float) (ws : List ℕ) (W ds : List Floa
     Type 0 where
   pub bound : l ≤ length ws - 1
   pub stands : Stands g ws l c
-  pub size : length e ≡ length ds
   pub sum : e ≡ plus_of ds (flat_to (slots_in (net_of g) ps ws W) l)
 
 module _ {g : Grid} {ps : List Float} {ws : List ℕ} {W ds : List Float} where
-  -- the number of a cursor that stands at layer l is l
-  pub here : {l : ℕ} {c : Layer} {e : List Float} → Summed g ps ws W ds l c e → Summed g ps ws W ds c.index c e
-  here {c = c} {e} k = subst (λ (i : ℕ). Summed g ps ws W ds i c e) (sym k.stands.index) k
-
   pub set_out : {c : Layer} → Stands g ws 0 c → Summed g ps ws W ds 0 c ds
-  set_out s = record { bound = omega arith; stands = s; size = refl; sum = plus_first _ ds }
+  set_out s = record { bound = omega arith; stands = s; sum = plus_first _ ds }
 
   pub arrived : {l : ℕ} {c : Layer} {e : List Float} → length ws - 1 ≤ l → Summed g ps ws W ds l c e
       → e ≡ plus_of ds (flat_to (slots_in (net_of g) ps ws W) (length ws - 1))
@@ -79,6 +74,7 @@ pub record Summing (g : Grid) (ps : List Float) (ws : List ℕ) (W ds : List Flo
     (e : List Float) : Type 0 where
   pub fits : WorkFits g ps ws W
   pub same : length ds ≡ length ps
+  pub size : length e ≡ length ds
   pub middle : half ≡ nodes_in ws
   pub more : l < length ws - 1
   pub summed : Summed g ps ws W ds l c e
@@ -92,6 +88,20 @@ pub record Reach (g : Grid) (ps : List Float) (ws : List ℕ) (W : List Float) (
   pub after : d.node ≡ c.node + c.inputs
   pub middle : half ≡ nodes_in ws
 
+pub summing : {g : Grid} {ps : List Float} {ws : List ℕ} {W ds : List Float} {l : ℕ} {c d end : Layer}
+    {e : List Float} → WorkFits g ps ws W → length ds ≡ length ps → Stands g ws (length ws - 1) end → l < end.index
+    → Summed g ps ws W ds l c e → length e ≡ length ds → Stands g ws (c.index + 1) d
+    → Summing g ps ws W ds (end.node + end.inputs) l c d e
+summing f same s more k size n = record {
+  fits = f;
+  same = same;
+  size = size;
+  middle = last_nodes f.walkable s;
+  more = omega (arith, more, s.index);
+  summed = k;
+  next = rw k.stands.index at n;
+}
+
 module _ {g : Grid} {ps : List Float} {ws : List ℕ} {W ds : List Float} {half l : ℕ} {c d : Layer} {e : List Float}
     (t : Summing g ps ws W ds half l c d e) where
   stood : Stands g ws l c
@@ -100,7 +110,7 @@ module _ {g : Grid} {ps : List Float} {ws : List ℕ} {W ds : List Float} {half 
   pub reach : Reach g ps ws W half c d e
   reach = record {
     lie = lies t.fits t.more stood;
-    gradients = t.summed.size ∙ t.same;
+    gradients = t.size ∙ t.same;
     after = next_node stood t.next;
     middle = t.middle;
   }
@@ -137,13 +147,13 @@ module _ {g : Grid} {ps : List Float} {ws : List ℕ} {W ds : List Float} {half 
       rw (k.own, rest c.at e) (clean_part c.at _ (length ds) e (omega (arith, k.part, t.same)) more)
 
   -- what the turn leaves
-  pub left : {y : List Float} → length (put_mid c.at (length e - c.at) e y) ≡ length e
+  pub left : {y : List Float}
       → y ≡ plus_of (take (length e - c.at) (drop c.at e)) (layer_slots (basis_of c.mesh.grid)
       (take (length ps - c.at) (drop c.at ps)) (take (d.node - c.node) (drop c.node W))
       (take (half + d.node + c.outputs - (half + d.node)) (drop (half + d.node) W)))
       → Summed g ps ws W ds (l + 1) d (put_mid c.at (length e - c.at) e y)
   unfolding flat_to
-  left {y} size p =
+  left {y} p =
       let slots = slots_in (net_of g) ps ws W in
       let before : length (flat_to slots l) ≡ c.at =
       flat_params (g.intervals + 5) ws slots l (λ j i. slots_long g ps ws W t.fits.work j (omega (arith, t.more)))
@@ -154,6 +164,5 @@ module _ {g : Grid} {ps : List Float} {ws : List ℕ} {W ds : List Float} {half 
       record {
         bound = omega (arith, t.more);
         stands = t.next;
-        size = size ∙ t.summed.size;
         sum = rw (add-one l) (plus_part ds (flat_to slots l) (slots l) c.at e y t.summed.sum before inside added);
       }

@@ -13,8 +13,6 @@ use Rattle.layers.specs.Widths.{width_at, widths_to, nodes_in}
 use Rattle.layer_cursor.specs.declared.Layer.{Layer}
 use Rattle.layer_cursor.specs.Cursor.{Walkable, Stands}
 use Rattle.layer_cursor.proofs.Cursors.{widths_room, inside, step_nodes}
-use Rattle.local_basis.specs.Meshes.{mesh_of, Meshed}
-use Rattle.local_basis.proofs.Meshes.{meshed_as}
 use Rattle.fast_forward.specs.Inputs.{Parameters, Within}
 use Rattle.passes.proofs.Passes.{finite_part}
 use Rattle.row_gradients.specs.Calls.{WorkFits}
@@ -46,7 +44,7 @@ next_node {g} {ws} {l} {c} s n = n.nodes ∙ sym (step_nodes g ws l c s)
 -- ---- a layer's part lies in the model, its nodes among the N, and these twice in the work
 pub record Lies (g : Grid) (ps : List Float) (ws : List ℕ) (W : List Float) (c : Layer) : Type 0 where
   pub grid : g.intervals ≤ 250000
-  pub own : c.mesh ≡ mesh_of g
+  pub own : c.mesh.grid ≡ g
   pub part : c.at + c.outputs * (c.inputs * (g.intervals + 5)) ≤ length ps
   pub small : length ps ≤ 250000
   pub some : 0 < c.outputs
@@ -71,9 +69,6 @@ lies {g} {ps} {ws} {W} {l} {c} f h s =
     }
 
 module _ {g : Grid} {ps : List Float} {ws : List ℕ} {W : List Float} {c : Layer} (k : Lies g ps ws W c) where
-  pub mesh_is : Meshed c.mesh
-  mesh_is = meshed_as k.own k.grid
-
   -- its parameters, in a model that is finite
   pub parameters : Finite (length ps) ps
       → Parameters c.mesh.grid (take (length ps - c.at) (drop c.at ps)) c.inputs c.outputs

@@ -23,7 +23,7 @@ use Rattle.gradients.specs.Gradient.{back_layer}
 use Rattle.row_gradients.specs.Backward.{output_gradient, ups_of}
 use Rattle.row_gradients.specs.Calls.{two_n, WorkFits, Nodes}
 use Rattle.row_gradients.specs.Steps.{up_at, Ups, Backed}
-use Rattle.row_gradients.proofs.Spans.{Lies, lies, first_width, last_nodes}
+use Rattle.row_gradients.proofs.Spans.{Lies, lies, refit, first_width, last_nodes}
 
 pub back_length : (B : Basis) (ps xs us : List Float) → length (back_layer B ps xs us) ≡ length xs
 unfolding back_layer
@@ -39,18 +39,6 @@ pub record Led (g : Grid) (ps : List Float) (ws : List ℕ) (xs ts : List Float)
   pub ups : Ups (net_of g) ps ws xs ts scale W l
   pub size : length W ≡ length W₀
   pub rest : drop (two_n ws) W ≡ drop (two_n ws) W₀
-
-module _ {g : Grid} {ps : List Float} {ws : List ℕ} {xs ts : List Float} {scale : Float} {W₀ : List Float} {l : ℕ}
-    {c : Layer} {W : List Float} (k : Led g ps ws xs ts scale W₀ l c W) where
-  -- the number of a cursor that stands at the nodes l is l
-  pub here : Led g ps ws xs ts scale W₀ c.index c W
-  here = subst (λ (i : ℕ). Led g ps ws xs ts scale W₀ i c W) (sym k.stands.index) k
-
-  -- one more than the number before it
-  pub one_less : Led g ps ws xs ts scale W₀ (l - 1 + 1) c W
-  one_less =
-      let e : l ≡ l - 1 + 1 = omega (arith, k.some) in
-      subst (λ (i : ℕ). Led g ps ws xs ts scale W₀ i c W) e k
 
 -- ---- what is written in the second half leaves the first, and what lies past both
 module _ (ws : List ℕ) (W : List Float) (a : ℕ) (ys : List Float) (fits : a + length ys ≤ length W) (W' : List Float)
@@ -75,6 +63,10 @@ pub record Outset (g : Grid) (ps : List Float) (ws : List ℕ) (ts W : List Floa
   pub fits : WorkFits g ps ws W
   pub wide : length ts ≡ output_width ws
   pub stands : Stands g ws (length ws - 1) end
+
+pub outset : {g : Grid} {ps : List Float} {ws : List ℕ} {ts W : List Float} {end : Layer} → WorkFits g ps ws W
+    → length ts ≡ output_width ws → Stands g ws (length ws - 1) end → Outset g ps ws ts W end
+outset f w s = record { fits = f; wide = w; stands = s }
 
 module _ {g : Grid} {ps : List Float} {ws : List ℕ} {ts W : List Float} {end : Layer}
     (o : Outset g ps ws ts W end) where
@@ -123,10 +115,10 @@ module _ {g : Grid} {ps : List Float} {ws : List ℕ} {ts W : List Float} {end :
         rw (none, e, at_N) (there ∙ rw (k last (omega (arith, o.fits.walkable.some))))
 
     pub set_out : Nodes (net_of g) ps ws (take (width_at ws 0) W) W (length ws)
-        → Led g ps ws (take (width_at ws 0) W') ts scale W' last end W'
+        → Led g ps ws (take (width_at ws 0) W') ts scale W' end.index end W'
     set_out k =
         let xs = take (width_at ws 0) W in
-        rw same_front (record {
+        let led : Led g ps ws (take (width_at ws 0) W') ts scale W' last end W' = rw same_front (record {
           some = omega (arith, o.fits.walkable.some);
           high = omega (arith, o.fits.walkable.some);
           stands = o.stands;
@@ -134,7 +126,8 @@ module _ {g : Grid} {ps : List Float} {ws : List ℕ} {ts W : List Float} {end :
           ups = output_ups xs k;
           size = refl;
           rest = refl;
-        })
+        }) in
+        subst (λ (i : ℕ). Led g ps ws (take (width_at ws 0) W') ts scale W' i end W') (sym o.stands.index) led
 
     -- back at the nodes that the second layer reads
     pub ended : {l : ℕ} {c : Layer} {W'' : List Float} → l ≤ 1
@@ -156,6 +149,20 @@ pub record Backing (g : Grid) (ps : List Float) (ws : List ℕ) (xs ts : List Fl
   pub some : 0 < m
   pub led : Led g ps ws xs ts scale W₀ (m + 1) c W
   pub stands : Stands g ws m d
+
+pub backing : {g : Grid} {ps : List Float} {ws : List ℕ} {xs ts : List Float} {scale : Float} {U W₀ : List Float} {l : ℕ}
+    {c d end : Layer} {W : List Float} → WorkFits g ps ws U → length W₀ ≡ length U → Stands g ws (length ws - 1) end
+    → 1 < l → Led g ps ws xs ts scale W₀ l c W → Stands g ws (c.index - 1) d
+    → Backing g ps ws xs ts scale W₀ (end.node + end.inputs) (l - 1) c d W
+backing {g} {ps} {ws} {xs} {ts} {scale} {W₀ = W₀} {l} {c} {W = W} f size s more k n =
+    let e : l ≡ l - 1 + 1 = omega (arith, more) in
+    record {
+      fits = refit f (k.size ∙ size);
+      middle = last_nodes f.walkable s;
+      some = omega (arith, more);
+      led = subst (λ (i : ℕ). Led g ps ws xs ts scale W₀ i c W) e k;
+      stands = rw k.stands.index at n;
+    }
 
 module _ {g : Grid} {ps : List Float} {ws : List ℕ} {xs ts : List Float} {scale : Float} {W₀ : List Float} {half m : ℕ}
     {c d : Layer} {W : List Float} (t : Backing g ps ws xs ts scale W₀ half m c d W) where

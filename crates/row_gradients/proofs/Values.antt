@@ -1,6 +1,7 @@
 -- The node values in the work: where a row stands at a layer, and one layer more. Assumes nothing.
-use mathlib.Core.Path.{◌≡◌, refl, sym, subst, ap, ◌∙◌}
-use mathlib.Core.Bool.{Bool, true, false, false≢true}
+use Rattle.std.specs.Prelude.{Ok, Err}
+use mathlib.Core.Path.{◌≡◌, refl, sym, ap, ◌∙◌}
+use mathlib.Core.Bool.{true}
 use mathlib.Core.Logic.{⊎_elim}
 use mathlib.Core.List.{List, ◌++◌}
 use Prim.Native.Nat.{ℕ, suc, ◌+◌, ◌-◌, ◌*◌, ◌≤◌, ◌<◌}
@@ -14,6 +15,9 @@ use Rattle.floats.specs.Places.{part_at, written_at}
 use Rattle.floats.specs.Sums.{all_to, all_finite}
 use Rattle.floats.proofs.Loops.{rest, all_none, all_more, all_stop}
 use Rattle.floats.proofs.Places.{part_is, written_length, written_there, written_before, written_after, written_front}
+use Rattle.refusals.specs.declared.Refusal.{Refusal}
+use Rattle.refusals.specs.Refusals.{◌otherwise◌, Outcome, outcome_of}
+use Rattle.refusals.proofs.Firsts.{test_passes, not_refused}
 use Rattle.spline.specs.declared.Grid.{Grid}
 use Rattle.layers.specs.Basis.{Basis}
 use Rattle.layers.specs.Net.{Net, net_of, basis_of}
@@ -26,17 +30,22 @@ use Rattle.passes.specs.Pass.{nodes_of, finite_after, nodes_finite}
 use Rattle.passes.proofs.Passes.{layer_length}
 use Rattle.row_gradients.specs.Calls.{two_n, WorkFits, Nodes, NodesFilled}
 use Rattle.row_gradients.specs.Steps.{LayerFilled}
-use Rattle.row_gradients.proofs.Spans.{Lies, lies, first_width}
+use Rattle.row_gradients.proofs.Spans.{Lies, lies, refit, first_width}
+use Rattle.row_gradients.proofs.Tests.{test_fails, never_ok}
+
+-- 20, where not all values are finite
+abbrev finite_or_20 : List Float → Outcome
+finite_or_20 xs = outcome_of (all_finite xs otherwise 20) 0
 
 -- a test of what a layer has written is one of its values
-pub tested : {B : Basis} {ps : List Float} {from w to n : ℕ} {W W' : List Float} {r : Bool} → to + n ≤ length W
-    → W' ≡ written_at W to (layer_of B ps (part_at W from w) n) → r ≡ all_finite (take (to + n - to) (drop to W'))
-    → LayerFilled B ps from w to n W W' r
+pub tested : {B : Basis} {ps : List Float} {from w to n : ℕ} {W W' : List Float} {r : Outcome} → to + n ≤ length W
+    → W' ≡ written_at W to (layer_of B ps (part_at W from w) n)
+    → r ≡ outcome_of (all_finite (take (to + n - to) (drop to W')) otherwise 20) 0 → LayerFilled B ps from w to n W W' r
 tested {B} {ps} {from} {w} {to} {n} {W} {W'} h p q =
     let values = layer_of B ps (part_at W from w) n in
     let long : length values ≡ n = layer_length B ps (part_at W from w) n in
     let there = rw long at (written_there W to values (omega (arith, long))) in
-    record { finite = q ∙ ap all_finite (part_is W' to n ∙ rw p there); work = p }
+    record { answer = q ∙ ap finite_or_20 (part_is W' to n ∙ rw p there); work = p }
 
 -- ---- at layer l, from the work W₀, which has the row xs at its front
 pub record Valued (g : Grid) (ps : List Float) (ws : List ℕ) (xs W₀ : List Float) (l : ℕ) (c : Layer) (W : List Float) :
@@ -48,21 +57,17 @@ pub record Valued (g : Grid) (ps : List Float) (ws : List ℕ) (xs W₀ : List F
   pub size : length W ≡ length W₀
   pub rest : drop (nodes_in ws) W ≡ drop (nodes_in ws) W₀
 
--- ---- after layer l: the next values stand in their place too, and r says if they are finite
+-- ---- after layer l: the next values stand in their place too, and r is 20 if they are not finite
 pub record FilledNext (g : Grid) (ps : List Float) (ws : List ℕ) (xs W₀ : List Float) (l : ℕ) (W : List Float)
-    (r : Bool) : Type 0 where
+    (r : Outcome) : Type 0 where
   pub more : l < length ws - 1
   pub nodes : Nodes (net_of g) ps ws xs W (l + 1 + 1)
   pub finite : all_to (finite_after (net_of g) ps ws xs) l ≡ true
-  pub answer : r ≡ finite_after (net_of g) ps ws xs l
+  pub answer : r ≡ finite_or_20 (nodes_of (net_of g) ps ws xs (suc l))
   pub size : length W ≡ length W₀
   pub rest : drop (nodes_in ws) W ≡ drop (nodes_in ws) W₀
 
 module _ {g : Grid} {ps : List Float} {ws : List ℕ} {xs W₀ : List Float} where
-  -- the number of a cursor that stands at layer l is l
-  pub here : {l : ℕ} {c : Layer} {W : List Float} → Valued g ps ws xs W₀ l c W → Valued g ps ws xs W₀ c.index c W
-  here {c = c} {W} k = subst (λ (i : ℕ). Valued g ps ws xs W₀ i c W) (sym k.stands.index) k
-
   -- the row was copied to the front of the work U
   pub set_out : {c : Layer} (U : List Float) → Stands g ws 0 c → length xs ≡ width_at ws 0
       → W₀ ≡ xs ++ drop (length xs) U → Valued g ps ws xs W₀ 0 c W₀
@@ -77,43 +82,46 @@ module _ {g : Grid} {ps : List Float} {ws : List ℕ} {xs W₀ : List Float} whe
   }
 
   -- one layer more
-  pub one_layer : {l : ℕ} {d : Layer} {W : List Float} {r : Bool} → r ≡ true → FilledNext g ps ws xs W₀ l W r
-      → Stands g ws (l + 1) d → Valued g ps ws xs W₀ (l + 1) d W
-  one_layer {l} e t s = record {
+  pub one_layer : {l : ℕ} {d : Layer} {W : List Float} → FilledNext g ps ws xs W₀ l W (Ok tt) → Stands g ws (l + 1) d
+      → Valued g ps ws xs W₀ (l + 1) d W
+  one_layer {l} t s = record {
     bound = omega (arith, t.more);
     stands = s;
     nodes = t.nodes;
-    finite = all_more _ l t.finite (sym t.answer ∙ e);
+    finite = all_more _ l t.finite (test_passes _ 19 (not_refused _ 0 (sym t.answer)));
     size = t.size;
     rest = t.rest;
   }
 
   -- a stop at a value that is not finite, and the end of the way
-  pub stopped : {l : ℕ} {W : List Float} {r : Bool} → r ≡ false → FilledNext g ps ws xs W₀ l W r
-      → NodesFilled (net_of g) ps ws xs W₀ W false
+  pub stopped : {l : ℕ} {W : List Float} {e : Refusal} → FilledNext g ps ws xs W₀ l W (Err e)
+      → NodesFilled (net_of g) ps ws xs W₀ W (Err e)
   unfolding nodes_finite
-  stopped {l} e t = record {
-    finite = sym (all_stop _ l (length ws - 1) t.more (sym t.answer ∙ e));
-    nodes = λ z. absurd (false≢true z);
-    rest = t.rest;
-  }
+  stopped {l} t =
+      let wrong = test_fails _ 20 0 _ (sym t.answer) in
+      record {
+        answer = rw (all_stop (finite_after (net_of g) ps ws xs) l (length ws - 1) t.more wrong) (rw wrong at t.answer);
+        nodes = λ z. never_ok z;
+        rest = t.rest;
+      }
 
   pub arrived : {l : ℕ} {c : Layer} {W : List Float} → length ws - 1 ≤ l → Valued g ps ws xs W₀ l c W
-      → NodesFilled (net_of g) ps ws xs W₀ W true
+      → NodesFilled (net_of g) ps ws xs W₀ W (Ok tt)
   unfolding nodes_finite
   arrived {l} h k =
       let e : l ≡ length ws - 1 = omega (arith, k.bound) in
-      record { finite = sym (rw (← e) k.finite); nodes = λ z j i. k.nodes j (omega arith); rest = k.rest }
+      let all : all_to (finite_after (net_of g) ps ws xs) (length ws - 1) ≡ true = rw (← e) k.finite in
+      record { answer = rw all; nodes = λ z j i. k.nodes j (omega arith); rest = k.rest }
 
 -- the copy left what lies past the nodes
-pub copied : {g : Grid} {ps : List Float} {ws : List ℕ} {xs U W W' : List Float} {r : Bool} → WorkFits g ps ws U
+pub copied : {g : Grid} {ps : List Float} {ws : List ℕ} {xs U W W' : List Float} {r : Outcome} → WorkFits g ps ws U
     → length xs ≡ width_at ws 0 → W ≡ xs ++ drop (length xs) U → NodesFilled (net_of g) ps ws xs W W' r
     → NodesFilled (net_of g) ps ws xs U W' r
 copied {g} {ps} {ws} {xs} {U} {W} f e p y =
     let first = first_width f.walkable in
     let fits : 0 + length xs ≤ length U = omega (arith, f.work) in
     let past = written_after U 0 xs fits (nodes_in ws) (omega arith) in
-    record { finite = y.finite; nodes = y.nodes; rest = y.rest ∙ rw (written_front U xs W p) past }
+    record { answer = y.answer; nodes = y.nodes; rest = y.rest ∙ rw (written_front U xs W p) past }
 
 -- ---- in a turn at layer l, whose cursor is c, of a row whose model and work fit; the next layer's is d
 pub record Filling (g : Grid) (ps : List Float) (ws : List ℕ) (xs W₀ : List Float) (l : ℕ) (c d : Layer)
@@ -122,6 +130,11 @@ pub record Filling (g : Grid) (ps : List Float) (ws : List ℕ) (xs W₀ : List 
   pub more : l < length ws - 1
   pub valued : Valued g ps ws xs W₀ l c W
   pub next : Stands g ws (l + 1) d
+
+pub filling : {g : Grid} {ps : List Float} {ws : List ℕ} {xs U W₀ : List Float} {l : ℕ} {c d : Layer} {W : List Float}
+    → WorkFits g ps ws U → length W₀ ≡ length U → l < length ws - 1 → Valued g ps ws xs W₀ l c W
+    → Stands g ws (c.index + 1) d → Filling g ps ws xs W₀ l c d W
+filling f size h v n = record { fits = refit f (v.size ∙ size); more = h; valued = v; next = rw v.stands.index at n }
 
 module _ {g : Grid} {ps : List Float} {ws : List ℕ} {xs W₀ : List Float} {l : ℕ} {c d : Layer} {W : List Float}
     (t : Filling g ps ws xs W₀ l c d W) where
@@ -168,18 +181,18 @@ module _ {g : Grid} {ps : List Float} {ws : List ℕ} {xs W₀ : List Float} {l 
             rw p (written_before W to values room (widths_to ws j) (width_at ws j) (widths_room ws j (l + 1) z))
             ∙ t.valued.nodes j z
 
-    filled : {r : Bool} → r ≡ all_finite values → FilledNext g ps ws xs W₀ l W' r
+    filled : {r : Outcome} → r ≡ finite_or_20 values → FilledNext g ps ws xs W₀ l W' r
     filled q = record {
       more = t.more;
       nodes = next_nodes;
       finite = t.valued.finite;
-      answer = q ∙ ap all_finite values_are;
+      answer = q ∙ ap finite_or_20 values_are;
       size = rw p (written_length W to values room) ∙ t.valued.size;
       rest = rw p (written_after W to values room (nodes_in ws) in_n) ∙ t.valued.rest;
     }
 
   -- what the layer leaves, as the cursors have its places
-  pub left : {W' : List Float} {r : Bool}
+  pub left : {W' : List Float} {r : Outcome}
       → LayerFilled (basis_of c.mesh.grid) (take (length ps - c.at) (drop c.at ps)) c.node c.inputs d.node
       c.outputs W W' r
       → FilledNext g ps ws xs W₀ l W' r
@@ -188,7 +201,7 @@ module _ {g : Grid} {ps : List Float} {ws : List ℕ} {xs W₀ : List Float} {l 
       let z : LayerFilled (basis_of g) (drop (params_to (g.intervals + 5) ws l) ps) from (width_at ws l) to
       (width_at ws (l + 1)) W W' r =
       rw (rest c.at ps, s.mesh, s.part, s.nodes, s.inputs, s.outputs, t.next.nodes) at y in
-      filled z.work z.finite
+      filled z.work z.answer
 
 -- ---- a row that passes: all its values stand in the work, the row itself at the front
 pub row_front : {g : Grid} {ps : List Float} {ws : List ℕ} {xs W : List Float} → WorkFits g ps ws W
@@ -197,7 +210,7 @@ unfolding widths_to nodes_of
 row_front f k = k 0 (omega (arith, f.walkable.some))
 
 -- what lies past 2N is as it was, since what lies past N is
-pub further : {N : Net} {ps : List Float} {ws : List ℕ} {xs W W' : List Float} {r : Bool}
+pub further : {N : Net} {ps : List Float} {ws : List ℕ} {xs W W' : List Float} {r : Outcome}
     → NodesFilled N ps ws xs W W' r → drop (two_n ws) W' ≡ drop (two_n ws) W
 further {ws = ws} {W = W} {W'} f =
     let n = nodes_in ws in

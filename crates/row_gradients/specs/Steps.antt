@@ -1,7 +1,8 @@
 -- What the steps of a row promise each other; no part of the meaning. Definitions only.
-use Rattle.std.specs.Prelude.{ℕ, ◌+◌, ◌-◌, ◌≤◌, ◌<◌, ◌≡◌, Bool, List, length, drop, Float}
+use Rattle.std.specs.Prelude.{ℕ, ◌+◌, ◌-◌, ◌≤◌, ◌<◌, ◌≡◌, List, length, drop, Float}
 use Rattle.floats.specs.Places.{part_at, written_at}
 use Rattle.floats.specs.Sums.{all_finite}
+use Rattle.refusals.specs.Refusals.{◌otherwise◌, Outcome, outcome_of}
 use Rattle.layers.specs.Basis.{Basis}
 use Rattle.layers.specs.Net.{Net, basis_at}
 use Rattle.layers.specs.Widths.{width_at, params_to, widths_to, nodes_in}
@@ -10,9 +11,9 @@ use Rattle.gradients.specs.Gradient.{layer_slots}
 use Rattle.row_gradients.specs.Backward.{ups_of}
 use Rattle.row_gradients.specs.Calls.{two_n, Nodes}
 
--- one layer of w inputs at `from` and n outputs, written at `to`, and whether these are finite
-pub record LayerFilled (B : Basis) (ps : List Float) (from w to n : ℕ) (W W' : List Float) (r : Bool) : Type 0 where
-  pub finite : r ≡ all_finite (layer_of B ps (part_at W from w) n)
+-- one layer of w inputs at `from` and n outputs, written at `to`, and 20 where one of these is not finite
+pub record LayerFilled (B : Basis) (ps : List Float) (from w to n : ℕ) (W W' : List Float) (r : Outcome) : Type 0 where
+  pub answer : r ≡ outcome_of (all_finite (layer_of B ps (part_at W from w) n) otherwise 20) 0
   pub work : W' ≡ written_at W to (layer_of B ps (part_at W from w) n)
 
 -- the gradients at the nodes stand from N on, as the values do from 0 on

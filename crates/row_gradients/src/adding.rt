@@ -1,7 +1,6 @@
 // What a row adds to the gradients of all parameters, layer by layer.
 ghost use Rattle.std.specs.Prelude.{◌≡◌, true, ◌-◌, length};
 ghost use Rattle.floats.specs.Sums.{flat_to};
-ghost use Rattle.exponential.specs.Steps.{Powers};
 ghost use Rattle.local_basis.specs.Fours.{Finite};
 ghost use Rattle.layers.specs.Net.{net_of};
 ghost use Rattle.layer_cursor.specs.Cursor.{Stands};
@@ -10,6 +9,7 @@ ghost use Rattle.fast_gradients.specs.Adding.{Clean};
 ghost use Rattle.row_gradients.specs.Calls.{WorkFits};
 ghost use Rattle.row_gradients.specs.Steps.{slots_in};
 
+use exponential::PowerTable;
 use layer_cursor::Layer;
 use spline::Grid;
 
@@ -19,7 +19,7 @@ use spline::Grid;
 #[inline(never)]
 pub fn add_layers(
     grid: Grid,
-    table: &[u32; 256],
+    table: &PowerTable,
     widths: &[usize],
     model: &[f32],
     work: &[f32],
@@ -28,8 +28,7 @@ pub fn add_layers(
     clean: bool,
 )
     requires { WorkFits grid model.now widths.now work.now × (length gradients.old ≡ length model.now)
-        × Stands grid widths.now (length widths.now - 1) end × Powers table.now
-        × Finite (length model.now) model.now
+        × Stands grid widths.now (length widths.now - 1) end × Finite (length model.now) model.now
         × (clean ≡ true → Clean (length gradients.old) gradients.old) }
     ensures { gradients.new ≡ plus_of gradients.old
         (flat_to (slots_in (net_of grid) model.now widths.now work.now)
@@ -37,7 +36,7 @@ pub fn add_layers(
 {
     let half = end.node + end.inputs;
     let mut layer = Layer::first(widths, grid);
-    while layer.index < end.index {
+    for _ in 0..end.index {
         let next = layer.next(widths, grid);
         let mesh = layer.mesh;
         let at = layer.at;

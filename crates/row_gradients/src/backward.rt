@@ -3,7 +3,6 @@
 ghost use Rattle.std.specs.Prelude.{◌≡◌, ◌+◌, ◌-◌, ◌≤◌, length, take};
 ghost use Rattle.floats.specs.Places.{part_at, written_at};
 ghost use Rattle.floats.specs.Sums.{tabulate};
-ghost use Rattle.exponential.specs.Steps.{Powers};
 ghost use Rattle.local_basis.specs.Fours.{Finite};
 ghost use Rattle.layers.specs.Net.{net_of, Net};
 ghost use Rattle.layers.specs.Widths.{input_width, output_width};
@@ -12,20 +11,23 @@ ghost use Rattle.row_gradients.specs.Backward.{output_gradient};
 ghost use Rattle.row_gradients.specs.Calls.{WorkFits, Nodes};
 ghost use Rattle.row_gradients.specs.Steps.{Backed};
 
+use exponential::PowerTable;
 use layer_cursor::Layer;
 use spline::Grid;
 
 // The gradients at the outputs, which stand at `from`: written at `to`.
+#[tactic(auto, using(floats::proofs::Places::written_none, floats::proofs::Places::written_more, floats::proofs::Places::read_one))]
 fn output_gradients(work: &mut [f32], from: usize, to: usize, targets: &[f32], scale: f32)
     requires { (from + length targets.now ≤ to) × (to + length targets.now ≤ length work.old) }
     ensures { work.new ≡ written_at work.old to
         (tabulate (output_gradient (part_at work.old from (length targets.now))
         targets.now scale) (length targets.now)) }
 {
-    for j in 0..targets.len() {
+    // Outputs and gradients stand in one slice: places read plainer here than two parts split off.
+    for (j, target) in targets.iter().enumerate() {
         let output = from + j;
         let place = to + j;
-        work[place] = scale * (work[output] - targets[j]);
+        work[place] = scale * (work[output] - *target);
     }
 }
 
@@ -34,7 +36,7 @@ fn output_gradients(work: &mut [f32], from: usize, to: usize, targets: &[f32], s
 #[inline(never)]
 pub fn back_layers(
     grid: Grid,
-    table: &[u32; 256],
+    table: &PowerTable,
     widths: &[usize],
     model: &[f32],
     targets: &[f32],
@@ -45,7 +47,7 @@ pub fn back_layers(
     requires { WorkFits grid model.now widths.now work.old × (length targets.now ≡ output_width widths.now)
         × Nodes (net_of grid) model.now widths.now (take (input_width widths.now) work.old) work.old
         (length widths.now) × Stands grid widths.now (length widths.now - 1) end
-        × Powers table.now × Finite (length model.now) model.now }
+        × Finite (length model.now) model.now }
     ensures { Backed (net_of grid) model.now widths.now
         (take (input_width widths.now) work.old) targets.now scale
         work.old work.new }
@@ -53,7 +55,7 @@ pub fn back_layers(
     let half = end.node + end.inputs;
     output_gradients(work, end.node, half + end.node, targets, scale);
     let mut layer = end;
-    while 1 < layer.index {
+    for _ in (1..end.index).rev() {
         layer = layer.previous(widths, grid);
         let mesh = layer.mesh;
         let at = layer.at;

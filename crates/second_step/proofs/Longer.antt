@@ -1,5 +1,6 @@
 -- Why R17.4 stops at one step: each step computed in stages, since the definitions work a node out anew for every parameter
 -- that it moves; the rest from what the stages leave, from R17.4 and from demand 3. Assumes nothing.
+use Rattle.std.specs.Prelude.{Ok}
 use Prim.Native.Nat.{ℕ, ◌<◌}
 use native.Mathlib.Omega.{arith}
 use mathlib.Core.Path.{◌≡◌, refl, sym, ap, ◌∙◌, subst}
@@ -12,7 +13,6 @@ use lib.Ieee.{Float, nan, binary32, fits, of_bits, round, add, sub, mul, div, ne
 use Rattle.floats.specs.Binary32.{◌⊕◌, ◌⊖◌, ◌⊗◌, zero32, one32}
 use Rattle.floats.specs.Sums.{at, zeros, sum_from, tabulate, all_to, all_finite, flat_to}
 use Rattle.floats.proofs.Loops.{all_each}
-use Rattle.refusals.specs.declared.Outcome.TheVariants.{Done}
 use Rattle.refusals.specs.Refusals.{first_to, done_to}
 use Rattle.refusals.proofs.Firsts.{both_pass, first_more, done_all}
 use Rattle.exponential.specs.Exponential.{exp_of}
@@ -158,7 +158,7 @@ module _ (last : Float) (sound : checks last ≡ 0) (w : First last) where
       trains last 2 left sound (first_more (faults last) 1 clear_1 (rw after_1 (fault again))) (rw after_1 (step again))
 
 -- ---- the map, computed
-map_done : Visited deep_net deep (unit_grid 2) (ending zero32) (zero32 ∷ []) (zeros 1) (zeros 1) (blank 14) Done (zeros 1) (zeros 1) marked
+map_done : Visited deep_net deep (unit_grid 2) (ending zero32) (zero32 ∷ []) (zeros 1) (zeros 1) (blank 14) (Ok tt) (zeros 1) (zeros 1) marked
 unfolding of_bits round add sub mul div neg sum eq ne lt le of_int sum_from tabulate all_to all_finite flat_to exp_of width_of knot_of portion_of
     indicator_of blend_of cox_of outside_of value_of rise_of slope_of silu_of params_to widest_to dot_of edge_with edge_of node_of layer_of
     nodes_of nodes_finite row_fault rows_in first_to done_to config_fault shape_sound products_fit intervals_sound ends_sound steps_sound domain_sound

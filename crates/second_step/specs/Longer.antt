@@ -2,17 +2,15 @@
 -- for the hidden node reads 0, where that coefficient is silent, and the second model differs in it alone. One step leaves both
 -- alike. It also moves what the hidden node reads to 9/16, where the coefficient is not silent: the second step moves the
 -- coefficient itself, and leaves different whatever else it moves. Definitions only.
-use Rattle.std.specs.Prelude.{ℕ, ◌≡◌, List, [], ◌∷◌, ◌++◌, Float}
+use Rattle.std.specs.Prelude.{ℕ, ◌≡◌, Ok, List, [], ◌∷◌, ◌++◌, Float}
 use Rattle.floats.specs.Binary32.{zero32, one32}
 use Rattle.floats.specs.Sums.{zeros}
-use Rattle.refusals.specs.declared.Outcome.TheVariants.{Done}
 use Rattle.spline.specs.Spline.{value_of}
 use Rattle.layers.specs.Net.{Net, net_of}
 use Rattle.config.specs.Config.{unit_grid}
 use Rattle.passes.specs.Pass.{nodes_of}
 use Rattle.touched_layer.specs.Touched.{blank}
 use Rattle.visit_map.specs.Visits.{Visited}
-use Rattle.training.specs.declared.calls.Training.TheVariants.{All}
 use Rattle.training.specs.Train.{Trained}
 use Rattle.demands.specs.Silent.{Differ}
 use Rattle.demands.specs.Readings.{TrainReads}
@@ -41,7 +39,7 @@ rate = bits 0x3f90_0000
 
 abbrev pub Trains : Float → ℕ → List Float → Type 0
 Trains last n ms =
-    Trained deep_net deep (unit_grid 2) (ending last) (zero32 ∷ []) (one32 ∷ []) rate (zeros 14) (zeros 6) n (All n) ms (zeros 14) (zeros 6)
+    Trained deep_net deep (unit_grid 2) (ending last) (zero32 ∷ []) (one32 ∷ []) rate (zeros 14) (zeros 6) n (Ok n) ms (zeros 14) (zeros 6)
 
 -- R12.2, R12.3: the map of the first model at x 0: of both edges all but the outer two coefficients
 abbrev pub marked : List ℕ
@@ -75,7 +73,7 @@ AlikeAfter n =
 
 pub record Longer : Type 0 where
   -- R12.1: the map is accepted, lent just what is needed
-  pub visited : Visited deep_net deep (unit_grid 2) (ending zero32) (zero32 ∷ []) (zeros 1) (zeros 1) (blank 14) Done (zeros 1) (zeros 1) marked
+  pub visited : Visited deep_net deep (unit_grid 2) (ending zero32) (zero32 ∷ []) (zeros 1) (zeros 1) (blank 14) (Ok tt) (zeros 1) (zeros 1) marked
   -- R17.4: the models differ only in coefficients that it marks 0, so one step leaves them alike
   pub differ : Differ 7 (unmarked 7 marked) (ending zero32) (ending one32)
   pub one : SilentFor 1 × AlikeAfter 1

@@ -7,6 +7,7 @@ ghost use Rattle.spline.specs.Steps.{indicator_by, rising_of, falling_of, blend_
 use crate::{Grid, knot_by, width};
 
 // R6.5: a * b / d, multiplied first; 0 where the denominator is zero.
+#[tactic(auto, unfolding(crate::specs::Spline::portion_of))]
 pub fn portion(a: f32, b: f32, d: f32) -> f32
     ensures { result ≡ portion_of a b d }
 {
@@ -17,12 +18,7 @@ pub fn portion(a: f32, b: f32, d: f32) -> f32
 fn indicator(from: f32, to: f32, x: f32) -> f32
     ensures { result ≡ indicator_by from to x }
 {
-    if from <= x {
-        if x < to {
-            return 1.0;
-        }
-    }
-    0.0
+    if from <= x && x < to { 1.0 } else { 0.0 }
 }
 
 // A value on the knots from `from` up to `to`, in the part of the next degree that rises with x.
@@ -53,7 +49,8 @@ pub struct Cubic {
     pub slope: f32,
 }
 
-// The i-th at an x inside, on the five knots from knot i on: four indicators, three lines, two squares, of which both are made.
+// The i-th at an x inside, on the five knots from knot i on: four indicators, three lines, two squares, of which both
+// are made.
 pub fn cubic_at(grid: Grid, i: usize, x: f32) -> Cubic
     requires { (grid.intervals ≤ 250000) × (i + 3 ≤ grid.intervals + 5) }
     ensures { (result.value ≡ cox_of grid 3 i x) × (result.slope ≡ rise_of grid i x) }

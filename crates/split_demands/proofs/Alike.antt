@@ -9,7 +9,7 @@ use lib.Ieee.{Float}
 use Rattle.floats.specs.Binary32.{zero32}
 use Rattle.floats.specs.Sums.{at, zeros}
 use Rattle.floats.proofs.Loops.{tab_length}
-use Rattle.refusals.specs.declared.Outcome.{Outcome}
+use Rattle.refusals.specs.Refusals.{Outcome}
 use Rattle.spline.specs.declared.Grid.{Grid}
 use Rattle.layers.specs.Net.{Net, net_of}
 use Rattle.demands.specs.Silent.{Places, Differ}

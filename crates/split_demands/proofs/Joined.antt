@@ -9,8 +9,7 @@ use lib.ListN.{length}
 use lib.Ieee.{Float}
 use Rattle.floats.specs.Sums.{zeros, all_to}
 use Rattle.floats.proofs.Loops.{all_of}
-use Rattle.refusals.specs.declared.Outcome.{Outcome}
-use Rattle.refusals.specs.Refusals.{first_to}
+use Rattle.refusals.specs.Refusals.{first_to, Outcome}
 use Rattle.spline.specs.declared.Grid.{Grid}
 use Rattle.layers.specs.Net.{Net}
 use Rattle.layers.specs.Widths.{input_width, output_width}

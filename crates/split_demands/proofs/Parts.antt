@@ -1,4 +1,5 @@
 -- R17.5: parts accumulated in order, none of them refused: one batch's rows, all added. Assumes nothing.
+use Rattle.std.specs.Prelude.{Ok}
 use Prim.Native.Nat.{ℕ, ◌+◌, ◌<◌}
 use native.Mathlib.Nat.{zero-mul}
 use native.Mathlib.Omega.{arith}
@@ -8,8 +9,7 @@ use mathlib.Core.List.{List, [], ◌∷◌, ◌++◌}
 use lib.ListN.{length}
 use lib.Ieee.{Float}
 use Rattle.floats.proofs.Loops.{all_each}
-use Rattle.refusals.specs.declared.Outcome.{Outcome}
-use Rattle.refusals.specs.declared.Outcome.TheVariants.{Done}
+use Rattle.refusals.specs.Refusals.{Outcome}
 use Rattle.spline.specs.declared.Grid.{Grid}
 use Rattle.layers.specs.Net.{Net}
 use Rattle.layers.specs.Widths.{input_width, output_width}
@@ -38,7 +38,7 @@ module _ (N : Net) (ws : List ℕ) (g : Grid) (ps : List Float) where
     pub left : gs' ≡ gathered N ps ws xs ts (output_width ws) (scale_of n) gs k
 
   gone_one : (part : Part) (n : ℕ) (gs : List Float) {r : Outcome} {left work : List Float} → part.total ≡ n
-      → Accumulated N ws g ps part.inputs part.targets part.total gs part.work r left work → r ≡ Done
+      → Accumulated N ws g ps part.inputs part.targets part.total gs part.work r left work → r ≡ Ok tt
       → Gone n (rows_of ws part.inputs) part.inputs part.targets gs left
   gone_one part n gs told call done =
       let xs = part.inputs in

@@ -12,8 +12,7 @@ use borrow.Author.Tests.{eq-eqb, ne_eqb, le-leb}
 use Rattle.floats.specs.Binary32.{zero32}
 use Rattle.floats.specs.Sums.{zeros, all_to, all_finite}
 use Rattle.floats.proofs.Loops.{tab_length}
-use Rattle.refusals.specs.declared.Outcome.{Outcome}
-use Rattle.refusals.specs.Refusals.{◌otherwise◌, ◌then◌, first_to, done_to, past, outcome_of}
+use Rattle.refusals.specs.Refusals.{◌otherwise◌, ◌then◌, first_to, done_to, past, Outcome, outcome_of}
 use Rattle.refusals.proofs.Firsts.{both_pass}
 use Rattle.spline.specs.declared.Grid.{Grid}
 use Rattle.layers.specs.Net.{Net}

@@ -1,4 +1,5 @@
 -- What a call of `accumulate` that nothing refuses has, and what it leaves. Assumes nothing.
+use Rattle.std.specs.Prelude.{Ok}
 use Prim.Native.Nat.{ℕ, zero, suc, ◌-◌, ◌≤◌, ◌<◌}
 use native.Mathlib.Omega.{arith}
 use mathlib.Core.Path.{◌≡◌, refl, sym, ap, ◌∙◌}
@@ -10,9 +11,7 @@ use lib.Ieee.{Float}
 use borrow.Author.Tests.{eqb-true, eqb-false, ne_eqb, le-leb, not-true}
 use Rattle.floats.specs.Sums.{all_to, all_finite}
 use Rattle.floats.proofs.Loops.{tab_length}
-use Rattle.refusals.specs.declared.Outcome.{Outcome}
-use Rattle.refusals.specs.declared.Outcome.TheVariants.{Done}
-use Rattle.refusals.specs.Refusals.{◌otherwise◌, past}
+use Rattle.refusals.specs.Refusals.{◌otherwise◌, past, Outcome}
 use Rattle.refusals.proofs.Firsts.{both_pass, test_passes, not_refused}
 use Rattle.spline.specs.declared.Grid.{Grid}
 use Rattle.layers.specs.Net.{Net}
@@ -90,7 +89,7 @@ module _ (N : Net) (ws : List ℕ) (g : Grid) (ps xs ts : List Float) (total : �
   added = gathered N ps ws xs ts (output_width ws) (scale_of total) gs (rows_of ws xs)
 
   module _ {r : Outcome} {gs' W' : List Float} (call : Accumulated N ws g ps xs ts total gs W r gs' W') where
-    pub done_clear : r ≡ Done → accumulate_fault N ws g ps xs ts total gs W ≡ 0
+    pub done_clear : r ≡ Ok tt → accumulate_fault N ws g ps xs ts total gs W ≡ 0
     done_clear e = not_refused _ _ (sym call.answer ∙ e)
 
     pub done_added : accumulate_fault N ws g ps xs ts total gs W ≡ 0 → gs' ≡ added

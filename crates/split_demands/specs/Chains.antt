@@ -1,7 +1,7 @@
 -- R17.5, R17.6: a chain of calls: batches accumulated one after the other, on one unchanged model and one lent slice.
 -- Definitions only.
 use Rattle.std.specs.Prelude.{ℕ, ◌≡◌, List, [], ◌∷◌, Float}
-use Rattle.refusals.specs.declared.Outcome.{Outcome}
+use Rattle.refusals.specs.Refusals.{Outcome}
 use Rattle.spline.specs.declared.Grid.{Grid}
 use Rattle.layers.specs.Net.{Net}
 use Rattle.split_training.specs.Accumulating.{Accumulated}

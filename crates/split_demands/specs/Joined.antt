@@ -1,8 +1,7 @@
 -- R17.5: what the two calls have to do with a training step. Definitions only.
-use Rattle.std.specs.Prelude.{ℕ, ◌*◌, ◌≡◌, true, List, [], ◌∷◌, ◌++◌, length, Float}
+use Rattle.std.specs.Prelude.{ℕ, ◌*◌, ◌≡◌, true, Ok, Err, List, [], ◌∷◌, ◌++◌, length, Float}
 use Rattle.floats.specs.Sums.{zeros}
-use Rattle.refusals.specs.declared.Outcome.{Outcome}
-use Rattle.refusals.specs.declared.Outcome.TheVariants.{Done, Refused}
+use Rattle.refusals.specs.Refusals.{Outcome}
 use Rattle.spline.specs.declared.Grid.{Grid}
 use Rattle.layers.specs.Net.{Net}
 use Rattle.layers.specs.Widths.{output_width}
@@ -27,7 +26,7 @@ joined_targets (part ∷ parts) = part.targets ++ joined_targets parts
 -- no call is refused, and each is told the total n
 unfoldable pub AllDone : List Outcome → Type 0
 AllDone [] = Unit {0}
-AllDone (r ∷ rs) = (r ≡ Done) × AllDone rs
+AllDone (r ∷ rs) = (r ≡ Ok tt) × AllDone rs
 
 unfoldable pub Stating : ℕ → List Part → Type 0
 Stating n [] = Unit {0}
@@ -35,12 +34,12 @@ Stating n (part ∷ parts) = (part.total ≡ n) × Stating n parts
 
 -- of two calls, the second made where the first is not refused: the answer, and the model left
 abbrev pub first_refusal : Outcome → Outcome → Outcome
-first_refusal Done second = second
-first_refusal (Refused r) second = Refused r
+first_refusal (Ok tt) second = second
+first_refusal (Err r) second = Err r
 
 abbrev pub unless_refused : Outcome → List Float → List Float → List Float
-unless_refused Done new old = new
-unless_refused (Refused r) new old = old
+unless_refused (Ok tt) new old = new
+unless_refused (Err r) new old = old
 
 pub record InTwoCalls (N : Net) (ws : List ℕ) (g : Grid) (ps : List Float) : Type 0 where
   -- R17.5: a step on as much work, with P gradients and a sound rate (R10.11 refuses another before 20), is accumulating

@@ -1,13 +1,12 @@
 -- R17.7: the start of `dot` (R17.2) where gradients are lent: a `dot` from -0.0 is hidden where no lent gradient is -0.0,
 -- and shows where one is. `apply` has no `dot`. Definitions only.
-use Rattle.std.specs.Prelude.{ℕ, ◌<◌, ◌≡◌, not, List, [], ◌∷◌, T, length, Float}
+use Rattle.std.specs.Prelude.{ℕ, ◌<◌, ◌≡◌, not, Ok, List, [], ◌∷◌, T, length, Float}
 use Rattle.std.specs.Float.{binary32}
 use Rattle.std.specs.Float.Ieee.{fits}
 use Rattle.floats.specs.Binary32.{zero32, one32, minus_zero32}
 use Rattle.floats.specs.Sums.{at, tabulate, zeros}
 use Rattle.floats.specs.Zeros.{is_minus_zero}
-use Rattle.refusals.specs.declared.Outcome.{Outcome}
-use Rattle.refusals.specs.declared.Outcome.TheVariants.{Done}
+use Rattle.refusals.specs.Refusals.{Outcome}
 use Rattle.spline.specs.declared.Grid.{Grid}
 use Rattle.layers.specs.Net.{Net, net_of}
 use Rattle.config.specs.Config.{unit_grid}
@@ -34,7 +33,7 @@ pub record StartAccumulating (N M : Net) (ws : List ℕ) (g : Grid) (ps xs ts : 
 abbrev pub Shown : Net → Float → Type 0
 Shown N slot =
     Accumulated N one_to_one (unit_grid 2) (weighted (tabulate (λ (k : ℕ). minus_zero32) 5)) (zero32 ∷ []) (one32 ∷ []) 1
-    (tabulate (λ (k : ℕ). minus_zero32) 7) (zeros 4) Done
+    (tabulate (λ (k : ℕ). minus_zero32) 7) (zeros 4) (Ok tt)
     (minus_zero32 ∷ slot ∷ minus_zero32 ∷ bits 0xbeaa_aaab ∷ bits 0xbfaa_aaab ∷ bits 0xbeaa_aaab ∷ minus_zero32 ∷ []) (zeros 4)
 
 pub record StartShown : Type 0 where

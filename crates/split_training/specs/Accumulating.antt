@@ -2,14 +2,13 @@
 -- a lent slice. Definitions only.
 use Rattle.std.specs.Prelude.{ℕ, ◌*◌, ◌≡◌, not, List, eqb, leb, length, Float}
 use Rattle.floats.specs.Sums.{all_to}
-use Rattle.refusals.specs.declared.Outcome.{Outcome}
-use Rattle.refusals.specs.Refusals.{◌otherwise◌, ◌then◌, past, outcome_of}
+use Rattle.refusals.specs.Refusals.{Outcome, ◌otherwise◌, ◌then◌, past, outcome_of}
 use Rattle.spline.specs.declared.Grid.{Grid}
 use Rattle.layers.specs.Net.{Net}
 use Rattle.layers.specs.Widths.{output_width, nodes_in}
-use Rattle.passes.specs.Pass.{from11_to18, rows_of, finite_row}
 use Rattle.config.specs.Config.{carried_by, parameters_for}
 use Rattle.admission.specs.Admission.{up_to9_for_nodes, swept}
+use Rattle.passes.specs.Pass.{from11_to18, rows_of, finite_row}
 use Rattle.batch_gradients.specs.Accumulate.{scale_of, gathered}
 
 -- R10.13: 28, the stated total is 0 or above 16,777,216

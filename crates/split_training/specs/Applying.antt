@@ -2,8 +2,7 @@
 -- Definitions only.
 use Rattle.std.specs.Prelude.{ℕ, ◌≡◌, List, eqb, length, Float}
 use Rattle.floats.specs.Sums.{all_finite}
-use Rattle.refusals.specs.declared.Outcome.{Outcome}
-use Rattle.refusals.specs.Refusals.{◌otherwise◌, ◌then◌, past, outcome_of}
+use Rattle.refusals.specs.Refusals.{Outcome, ◌otherwise◌, ◌then◌, past, outcome_of}
 use Rattle.spline.specs.declared.Grid.{Grid}
 use Rattle.config.specs.Config.{carried_by, parameters_for}
 use Rattle.admission.specs.Admission.{up_to8}

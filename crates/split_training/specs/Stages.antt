@@ -1,7 +1,8 @@
 -- What the stages inside the two calls ask and promise; no part of the calls' meaning. Definitions only.
-use Rattle.std.specs.Prelude.{ℕ, ◌<◌, ◌≡◌, Bool, true, false, cond, List, eqb, length, drop, Float}
+use Rattle.std.specs.Prelude.{ℕ, ◌<◌, ◌≡◌, true, List, eqb, length, drop, Float, Ok, Err}
 use Rattle.floats.specs.Sums.{all_to}
-use Rattle.refusals.specs.Refusals.{◌otherwise◌, ◌then◌, past}
+use Rattle.refusals.specs.declared.Refusal.{Refusal}
+use Rattle.refusals.specs.Refusals.{◌otherwise◌, ◌then◌, past, Outcome, outcome_of}
 use Rattle.spline.specs.declared.Grid.{Grid}
 use Rattle.local_basis.specs.Fours.{Finite}
 use Rattle.layers.specs.Net.{Net}
@@ -21,10 +22,16 @@ pub record AddReady (g : Grid) (ws : List ℕ) (ps xs ts gs W : List Float) : Ty
   pub finite : Finite (length ps) ps
   pub batch : SoundBatch (input_width ws) (output_width ws) xs ts
 
--- whether every row behind the first passes 20, the gradients as they were, and the work past 2N too
-pub record FurtherPassed (N : Net) (ws : List ℕ) (ps xs gs W : List Float) (r : Bool) (gs' W' : List Float) : Type 0 where
-  pub passed : r ≡ true → (k : ℕ) → 0 < k → k < rows_of ws xs → finite_row N ps ws xs k ≡ true
-  pub refused : r ≡ false → all_to (finite_row N ps ws xs) (rows_of ws xs) ≡ false
+-- 20, where a row does not pass it
+abbrev pub rows_fault : Net → List ℕ → List Float → List Float → ℕ
+rows_fault N ws ps xs = all_to (finite_row N ps ws xs) (rows_of ws xs) otherwise 20
+
+-- every row behind the first passes 20, or else it is the answer to all rows; the gradients as they were, and the work past
+-- 2N too
+pub record FurtherPassed (N : Net) (ws : List ℕ) (ps xs gs W : List Float) (r : Outcome) (gs' W' : List Float) :
+    Type 0 where
+  pub passed : r ≡ Ok tt → (k : ℕ) → 0 < k → k < rows_of ws xs → finite_row N ps ws xs k ≡ true
+  pub refused : (e : Refusal) → r ≡ Err e → r ≡ outcome_of (rows_fault N ws ps xs) 0
   pub kept : gs' ≡ gs
   pub rest : drop (two_n ws) W' ≡ drop (two_n ws) W
 
@@ -34,22 +41,23 @@ module _ (N : Net) (ws : List ℕ) (ps xs ts : List Float) (total : ℕ) (gs W :
   all_added = gathered N ps ws xs ts (output_width ws) (scale_of total) gs (rows_of ws xs)
 
   -- the rows: all of them added where every one passes 20, else none
-  pub record AddDone (r : Bool) (gs' W' : List Float) : Type 0 where
-    pub passed : r ≡ all_to (finite_row N ps ws xs) (rows_of ws xs)
-    pub gradients : gs' ≡ cond r all_added gs
+  pub record AddDone (r : Outcome) (gs' W' : List Float) : Type 0 where
+    pub answer : r ≡ outcome_of (rows_fault N ws ps xs) 0
+    pub gradients : gs' ≡ past (rows_fault N ws ps xs) all_added gs
     pub rest : drop (two_n ws) W' ≡ drop (two_n ws) W
 
 -- past check 9
+abbrev pub from10_to20 : Net → List ℕ → List Float → List Float → List Float → ℕ → List Float → ℕ
+from10_to20 N ws ps xs ts total gs =
+    eqb (length gs) (length ps) otherwise 10 then from11_to28 ps ws xs ts total then rows_fault N ws ps xs
+
 pub record AccumulateDone (N : Net) (ws : List ℕ) (ps xs ts : List Float) (total : ℕ) (gs W : List Float)
-    (r : ℕ) (gs' W' : List Float) : Type 0 where
-  pub refusal : r
-      ≡ (eqb (length gs) (length ps) otherwise 10
-      then from11_to28 ps ws xs ts total
-      then all_to (finite_row N ps ws xs) (rows_of ws xs) otherwise 20)
-  pub gradients : gs' ≡ past r (all_added N ws ps xs ts total gs W) gs
+    (r : Outcome) (gs' W' : List Float) : Type 0 where
+  pub answer : r ≡ outcome_of (from10_to20 N ws ps xs ts total gs) 0
+  pub gradients : gs' ≡ past (from10_to20 N ws ps xs ts total gs) (all_added N ws ps xs ts total gs W) gs
   pub rest : drop (two_n ws) W' ≡ drop (two_n ws) W
 
 -- ---- `apply`: past check 8
-pub record ApplyDone (ps gs : List Float) (rate : Float) (r : ℕ) (ps' : List Float) : Type 0 where
-  pub refusal : r ≡ from10_to23 (length ps) ps gs rate
-  pub model : ps' ≡ past r (moved_of ps gs rate) ps
+pub record ApplyDone (ps gs : List Float) (rate : Float) (r : Outcome) (ps' : List Float) : Type 0 where
+  pub answer : r ≡ outcome_of (from10_to23 (length ps) ps gs rate) 0
+  pub model : ps' ≡ past (from10_to23 (length ps) ps gs rate) (moved_of ps gs rate) ps

@@ -1,27 +1,14 @@
 -- Texts put one behind the other. Assumes nothing.
-use Prim.Native.Nat.{ℕ, ◌+◌, ◌*◌, ◌≤◌, ◌<◌}
+use Prim.Native.Nat.{ℕ, ◌+◌, ◌*◌, ◌≤◌}
 use native.Mathlib.Nat.{add_assoc, mul-add}
 use native.Mathlib.Numerals.{add-one}
 use native.Mathlib.Omega.{arith}
-use mathlib.Core.Path.{◌≡◌, refl, sym, ap, ◌∙◌, subst}
+use mathlib.Core.Path.{◌≡◌, sym, ap, ◌∙◌, subst}
 use mathlib.Core.List.{List, [], ◌++◌, append_assoc}
-use lib.ListN.{length, get_or, take, drop, set, length-append, length-drop, take-append-drop}
-use lib.Seq.{paste, paste-suc, take-length, take_at, drop_at, drop-drop, length-take-le}
+use lib.ListN.{length, take, drop, length-append, length-drop, take-append-drop}
+use lib.Seq.{take_at, drop_at, drop-drop, length-take-le}
 use Rattle.floats.specs.Sums.{flat_to}
 use Rattle.text.specs.Appended.{Appended, AppendedWithin}
-
--- ---- a turn of the loop that copies
-pub paste_more : (o : List ℕ) (at : ℕ) (s e : List ℕ) (i : ℕ) → e ≡ paste o at s i → at + i < length o → i < length s
-    → set e (at + i) (get_or s i 0) ≡ paste o at s (i + 1)
-paste_more o at s e i p h k = rw (p, add-one i) (paste-suc o at s i 0 h k)
-
-pub pasted : (o : List ℕ) (at : ℕ) (s e : List ℕ) (i : ℕ) → at + length s ≤ length o → e ≡ paste o at s i
-    → i ≡ length s → Appended o at s e (at + length s)
-pasted o at s e i h p q = record {
-  place = refl;
-  room = h;
-  bytes = p ∙ rw (q, take-length s) (append_assoc (take at o) s (drop (at + length s) o));
-}
 
 -- ---- one behind the other
 module _ {o t o' u o'' : List ℕ} {a n m : ℕ} (p : Appended o a t o' n) (q : Appended o' n u o'' m) where

@@ -9,39 +9,44 @@ pub fn append(out: &mut [u8], at: usize, text: &[u8]) -> usize
     requires { at + length text.now ≤ length out.old }
     ensures { Appended out.old at text.now out.new result }
 {
-    for i in 0..text.len() {
-        let place = at + i;
-        out[place] = text[i];
-    }
-    at + text.len()
+    let end = at + text.len();
+    out[at..end].copy_from_slice(text);
+    end
 }
 
+#[tactic(auto, unfolding(crate::specs::Text::glyph))]
 fn digit(n: u32) -> u8
     requires { n < 16 }
     ensures { result ≡ glyph n }
 {
-    if n < 10 { 48 + n as u8 } else { 87 + n as u8 }
+    if n < 10 {
+        b'0' + n as u8
+    } else {
+        b'a' - 10 + n as u8
+    }
 }
 
 // Eight hexadecimal digits.
+#[tactic(auto, unfolding(crate::specs::Text::bits_text))]
 pub fn append_bits(out: &mut [u8], at: usize, bits: u32) -> usize
     requires { at + 8 ≤ length out.old }
     ensures { AppendedWithin 8 out.old at (bits_text bits) out.new result }
 {
     let text = [
-        digit(bits / 268_435_456 % 16),
-        digit(bits / 16_777_216 % 16),
-        digit(bits / 1_048_576 % 16),
-        digit(bits / 65_536 % 16),
-        digit(bits / 4_096 % 16),
-        digit(bits / 256 % 16),
-        digit(bits / 16 % 16),
-        digit(bits % 16),
+        digit(bits >> 28),
+        digit(bits >> 24 & 0xf),
+        digit(bits >> 20 & 0xf),
+        digit(bits >> 16 & 0xf),
+        digit(bits >> 12 & 0xf),
+        digit(bits >> 8 & 0xf),
+        digit(bits >> 4 & 0xf),
+        digit(bits & 0xf),
     ];
     append(out, at, &text)
 }
 
-// The digits are worked out from the last one on, and so fill the array from its end.
+// The digits are worked out from the last one on, and so fill the array from its end. By hand, since `write!` could
+// fail for want of room, which a caller has already seen to.
 pub fn append_decimal(out: &mut [u8], at: usize, n: usize) -> usize
     requires { at + 20 ≤ length out.old }
     ensures { AppendedWithin 20 out.old at (decimal_of n) out.new result }
@@ -51,11 +56,11 @@ pub fn append_decimal(out: &mut [u8], at: usize, n: usize) -> usize
     let mut rest = n;
     while rest >= 10 {
         from -= 1;
-        digits[from] = 48 + (rest % 10) as u8;
-        rest = rest / 10;
+        digits[from] = b'0' + (rest % 10) as u8;
+        rest /= 10;
     }
     let first = from - 1;
-    digits[first] = 48 + (rest % 10) as u8;
+    digits[first] = b'0' + (rest % 10) as u8;
     append(out, at, &digits[first..])
 }
 

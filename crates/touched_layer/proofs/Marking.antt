@@ -1,14 +1,16 @@
 -- Bytes marked at the front of a list: one byte more, one part more. Assumes nothing.
-use mathlib.Core.Path.{◌≡◌, refl, ap, ◌∙◌}
+use mathlib.Core.Path.{◌≡◌, refl, sym, ap, ◌∙◌}
 use mathlib.Core.Bool.{Bool, true, false, cond}
 use mathlib.Core.List.{List, [], ◌∷◌, ◌++◌}
 use Prim.Native.Nat.{ℕ, zero, suc, ◌-◌, ◌≤◌, ◌<◌}
 use native.Mathlib.Nat.{le_of_suc-le-suc}
 use native.Mathlib.Omega.{arith}
-use lib.ListN.{length, take, drop, get_or, set}
+use lib.ListN.{length, take, drop, get_or, set, replicate, replicate-append-replicate}
+use native.Mathlib.Numerals.{add-one}
 use lib.Seq.{set_split, drop-cons}
 use borrow.Rule.Slice.PartMut.{put_mid}
-use Rattle.floats.specs.Sums.{flat_to}
+use Rattle.floats.specs.Sums.{flat_to, tabulate}
+use Rattle.touched_layer.specs.Touched.{blank}
 use Rattle.floats.proofs.Loops.{put_rest}
 use Rattle.touched_layer.specs.Marks.{marked_by}
 
@@ -67,3 +69,10 @@ unfolding marked_by
 marked_two bs [] y h r = absurd (omega arith)
 marked_two bs (m ∷ []) y h r = absurd (omega arith)
 marked_two bs (m ∷ n ∷ ms) y h r = put_rest 2 (1 ∷ 1 ∷ ms) y (omega arith) ∙ ap (λ (l : List ℕ). 1 ∷ 1 ∷ l) r
+
+-- bytes 0 as `fill` writes them
+pub blank_is : (n : ℕ) → replicate n 0 ≡ blank n
+unfolding tabulate
+blank_is zero = refl
+blank_is (suc n) =
+    sym (rw add-one at (replicate-append-replicate {A = ℕ} n 1 0)) ∙ ap (λ (l : List ℕ). l ++ (0 ∷ [])) (blank_is n)

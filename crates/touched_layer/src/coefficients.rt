@@ -9,6 +9,7 @@ use local_basis::Eight;
 use spline::Grid;
 
 // Whether a coefficient of this basis value and this slope is touched: a value may underflow where its slope does not.
+#[tactic(auto, unfolding(crate::specs::Touched::touches_by))]
 fn touched_by(value: f32, slope: f32) -> bool
     ensures { result ≡ touches_by value slope }
 {
@@ -16,6 +17,7 @@ fn touched_by(value: f32, slope: f32) -> bool
 }
 
 // Whether the number x touches coefficient k.
+#[tactic(auto, unfolding(crate::specs::Touched::touches))]
 pub fn is_touched(grid: Grid, k: usize, x: f32) -> bool
     requires { (grid.intervals ≤ 250000) × (k < grid.intervals + 3) }
     ensures { result ≡ touches (basis_of grid) k x }
@@ -33,6 +35,7 @@ pub fn mark(byte: u8, touched: bool) -> u8
 }
 
 // Byte k, by its coefficient's basis value and slope.
+#[tactic(auto, unfolding(crate::specs::Marks::mark_at))]
 fn mark_at(map: &mut [u8], k: usize, value: f32, slope: f32)
     requires { k < length map.old }
     ensures { map.new ≡ mark_at k (touches_by value slope) map.old }

@@ -3,7 +3,6 @@
 ghost use Rattle.std.specs.Prelude.{◌≡◌, true, [], ◌∷◌, ◌++◌, ℕ, ◌+◌, ◌*◌, ◌≤◌, ◌<◌, length, drop};
 ghost use Rattle.floats.specs.Sums.{flat_to};
 ghost use Rattle.local_basis.specs.Fours.{Both};
-ghost use Rattle.local_basis.specs.Meshes.{Meshed};
 ghost use Rattle.layers.specs.Net.{basis_of};
 ghost use Rattle.touched_layer.specs.Touched.{edge_touched, layer_touched, blank};
 ghost use Rattle.touched_layer.specs.Marks.{marked_by, in_row};
@@ -24,8 +23,9 @@ fn mark_edge(grid: Grid, x: f32, eight: Eight, map: &mut [u8])
 }
 
 // The edges that read one input, x, in n outputs, on a calm mesh: there the same four can be touched in each of them.
+// Rows are taken by place: after `chunks_exact_mut` a proof knows no byte.
 fn mark_by_four(mesh: Mesh, x: f32, from: usize, row: usize, n: usize, map: &mut [u8])
-    requires { Meshed mesh × (mesh.calm ≡ true) × (from + (mesh.grid.intervals + 5) ≤ row)
+    requires { (mesh.calm ≡ true) × (from + (mesh.grid.intervals + 5) ≤ row)
         × (n * row ≤ length map.old) }
     ensures { map.new ≡ marked_by (flat_to (λ (o : ℕ). in_row from row
         (edge_touched (basis_of mesh.grid) x)) n) map.old }
@@ -37,7 +37,7 @@ fn mark_by_four(mesh: Mesh, x: f32, from: usize, row: usize, n: usize, map: &mut
     }
 }
 
-// The byte at one place of each of n rows.
+// The byte at one place of each of n rows, by place as above.
 fn mark_column(touched: bool, at: usize, row: usize, n: usize, map: &mut [u8])
     requires { (at < row) × (n * row ≤ length map.old) }
     ensures { map.new
@@ -65,7 +65,7 @@ fn mark_one_by_one(grid: Grid, x: f32, from: usize, row: usize, n: usize, map: &
 
 // The edges that read one input, x, in n outputs: each `from` bytes behind the first of its row.
 fn mark_input(mesh: Mesh, x: f32, from: usize, row: usize, n: usize, map: &mut [u8])
-    requires { Meshed mesh × (from + (mesh.grid.intervals + 5) ≤ row) × (n * row ≤ length map.old) }
+    requires { (from + (mesh.grid.intervals + 5) ≤ row) × (n * row ≤ length map.old) }
     ensures { map.new ≡ marked_by (flat_to (λ (o : ℕ). in_row from row
         (edge_touched (basis_of mesh.grid) x)) n) map.old }
 {
@@ -78,15 +78,15 @@ fn mark_input(mesh: Mesh, x: f32, from: usize, row: usize, n: usize, map: &mut [
 
 // A layer of n outputs, input by input.
 pub fn mark_layer(mesh: Mesh, inputs: &[f32], n: usize, map: &mut [u8])
-    requires { Meshed mesh × (0 < n)
+    requires { (0 < n)
         × (n * (length inputs.now * (mesh.grid.intervals + 5)) ≤ length map.old) }
     ensures { map.new
         ≡ marked_by (layer_touched (basis_of mesh.grid) inputs.now n) map.old }
 {
     let stride = mesh.grid.intervals + 5;
     let row = inputs.len() * stride;
-    for i in 0..inputs.len() {
-        mark_input(mesh, inputs[i], i * stride, row, n, map);
+    for (i, x) in inputs.iter().enumerate() {
+        mark_input(mesh, *x, i * stride, row, n, map);
     }
 }
 
@@ -95,7 +95,5 @@ pub fn unmark(map: &mut [u8], n: usize)
     requires { n ≤ length map.old }
     ensures { map.new ≡ blank n ++ drop n map.old }
 {
-    for p in 0..n {
-        map[p] = 0;
-    }
+    map[..n].fill(0);
 }

@@ -1,5 +1,6 @@
 -- What the steps of marking a row ask and promise; no part of the meaning. Definitions only.
-use Rattle.std.specs.Prelude.{ℕ, ◌+◌, ◌*◌, ◌≤◌, ◌<◌, ◌≡◌, Bool, true, List, length, Float}
+use Rattle.std.specs.Prelude.{ℕ, ◌+◌, ◌*◌, ◌≤◌, ◌<◌, ◌≡◌, Ok, List, length, Float}
+use Rattle.refusals.specs.Refusals.{Outcome}
 use Rattle.spline.specs.declared.Grid.{Grid}
 use Rattle.local_basis.specs.Fours.{Finite}
 use Rattle.layers.specs.Net.{Net}
@@ -22,13 +23,13 @@ pub record Markable (g : Grid) (ps : List Float) (ws : List ℕ) (a b : List Flo
   pub bytes : parameters_in (g.intervals + 5) ws ≤ length ms
 
 -- all layers as a row's pass leaves them; where each value is finite, the bytes of the row are marked
-pub record LayersMarked (N : Net) (ps : List Float) (ws : List ℕ) (xs a b : List Float) (ms : List ℕ) (r : Bool)
+pub record LayersMarked (N : Net) (ps : List Float) (ws : List ℕ) (xs a b : List Float) (ms : List ℕ) (r : Outcome)
     (a' b' : List Float) (ms' : List ℕ) : Type 0 where
   pub layered : Layered N ps ws xs a b a' b' r
-  pub bytes : r ≡ true → ms' ≡ marked_by (row_touched N ps ws xs) ms
+  pub bytes : r ≡ Ok tt → ms' ≡ marked_by (row_touched N ps ws xs) ms
 
--- a whole row, with its refusal or 0
-pub record RowMarked (N : Net) (ps : List Float) (ws : List ℕ) (xs a b : List Float) (ms : List ℕ) (r : ℕ)
+-- a whole row
+pub record RowMarked (N : Net) (ps : List Float) (ws : List ℕ) (xs a b : List Float) (ms : List ℕ) (r : Outcome)
     (a' b' : List Float) (ms' : List ℕ) : Type 0 where
   pub ran : Ran N ps ws xs a b a' b' r
-  pub bytes : r ≡ 0 → ms' ≡ marked_by (row_touched N ps ws xs) ms
+  pub bytes : r ≡ Ok tt → ms' ≡ marked_by (row_touched N ps ws xs) ms

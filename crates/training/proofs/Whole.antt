@@ -1,18 +1,16 @@
 -- The whole calls from their parts: refused before any work, or worked and swept. Assumes nothing.
+use Rattle.std.specs.Prelude.{Err, Ok}
+use Rattle.std.specs.declared.result.Result.{Result}
 use mathlib.Core.Path.{◌≡◌, refl, sym, ap, ◌∙◌}
-use mathlib.Core.Bool.{true, false}
 use mathlib.Core.List.{List, ◌++◌}
 use Prim.Native.Nat.{ℕ, zero, suc, ◌+◌, ◌*◌, ◌<◌}
 use native.Mathlib.Nat.{le_trans, le_of_eq}
 use lib.ListN.{length, drop}
 use lib.Ieee.{Float}
-use Rattle.passes.specs.Pass.{from11_to18}
-use Rattle.floats.specs.Sums.{zeros, all_finite}
+use Rattle.floats.specs.Sums.{zeros}
+use Rattle.refusals.specs.Refusals.{Outcome, ◌otherwise◌, ◌then◌, outcome_of}
 use Rattle.refusals.specs.declared.Refusal.{Refusal}
-use Rattle.refusals.specs.declared.Outcome.{Outcome}
-use Rattle.refusals.specs.declared.Outcome.TheVariants.{Done, Refused as Not}
-use Rattle.refusals.specs.Refusals.{◌otherwise◌, ◌then◌, outcome_of}
-use Rattle.refusals.proofs.Firsts.{both_pass}
+use Rattle.refusals.proofs.Firsts.{both_pass, refused}
 use Rattle.spline.specs.declared.Grid.{Grid}
 use Rattle.layers.specs.Net.{Net}
 use Rattle.layers.specs.Widths.{input_width, output_width, parameters_in, nodes_in}
@@ -26,11 +24,9 @@ use Rattle.passes.proofs.Past9.{walkable}
 use Rattle.update.specs.Update.{rate_sound}
 use Rattle.training_step.specs.Stages.{TrainingRoom}
 use Rattle.training.specs.declared.calls.Stop.{Stop}
-use Rattle.training.specs.declared.calls.Training.{Training}
-use Rattle.training.specs.declared.calls.Training.TheVariants.{All, Stopped}
-use Rattle.training.specs.Train.{from11_to19, model_after, training_of, up_to19, train_fault, train_done, Trained, Stepped}
-use Rattle.training.specs.Stages.{StepsDone, TrainDone}
-use Rattle.training.proofs.Steps.{rests_none}
+use Rattle.training.specs.Train.{model_after, training_of, up_to19, train_fault, train_done, Trained, Stepped}
+use Rattle.training.specs.Stages.{TrainDone}
+use Rattle.training.proofs.Steps.{stopped}
 
 -- ---- what the checks up to 9 give
 pub roomy : (ws : List ℕ) (g : Grid) (ps gs W : List Float) → Past9InTraining ws g (length ps) (length gs) (length W)
@@ -44,32 +40,10 @@ roomy ws g ps gs W f = record {
 pub swept_by : {n m : ℕ} (s : List Float) {s' : List Float} → n ≡ m → s' ≡ zeros m ++ drop m s → s' ≡ zeros n ++ drop n s
 swept_by s e h = rw e h
 
--- ---- past check 9
-module _ (N : Net) (ws : List ℕ) (ps xs ts : List Float) (steps : ℕ) (rate : Float) (gs W : List Float) where
-  -- refused before the first step
-  pub train_not_begun : (n : ℕ) → (n ≡ 0 → ⊥) → n ≡ from11_to19 ps ws xs ts rate
-      → TrainDone N ws ps xs ts steps rate gs W (training_of n 0 0) ps gs W
-  unfolding model_after
-  train_not_begun zero h e = absurd (h refl)
-  train_not_begun (suc n) h e = record { answer = rw (← e); model = rw (← e); rests = rests_none ws ps gs W }
-
-  pub train_begun : (r : Training) (ps' gs' W' : List Float) → from11_to19 ps ws xs ts rate ≡ 0
-      → StepsDone N ws ps xs ts steps rate gs W r ps' gs' W' → TrainDone N ws ps xs ts steps rate gs W r ps' gs' W'
-  train_begun r ps' gs' W' e d = record { answer = rw e d.answer; model = rw e d.model; rests = d.rests }
-
 -- ---- the checks before the first step
-pub wild : (ws : List ℕ) (ps xs ts : List Float) (rate : Float) → all_finite ps ≡ false → 11 ≡ from11_to19 ps ws xs ts rate
-unfolding from11_to18 from11_to19
-wild ws ps xs ts rate e = rw e
-
 -- 12 to 19
 abbrev pub from12_to19 : List ℕ → List Float → List Float → Float → ℕ
 from12_to19 ws xs ts rate = batch_fault (input_width ws) (output_width ws) xs ts then rate_sound rate otherwise 19
-
-pub tame : (ws : List ℕ) (ps xs ts : List Float) (rate : Float) (n : ℕ) → all_finite ps ≡ true → n ≡ from12_to19 ws xs ts rate
-    → n ≡ from11_to19 ps ws xs ts rate
-unfolding from11_to18 from11_to19
-tame ws ps xs ts rate n e f = rw e f
 
 pub sound_batch : (ws : List ℕ) (xs ts : List Float) (rate : Float) → 0 < input_width ws → 0 < output_width ws
     → from12_to19 ws xs ts rate ≡ 0 → SoundBatch (input_width ws) (output_width ws) xs ts
@@ -83,16 +57,16 @@ module _ (N : Net) (ws : List ℕ) (g : Grid) (ps xs ts : List Float) (rate : Fl
   abbrev P : ℕ
   P = parameters_in (g.intervals + 5) ws
 
-  pub train_refused : (steps : ℕ) (r : Refusal) (n : ℕ) → to9 ≡ n → (n ≡ 0 → ⊥) → n ≡ r.number → r.carried ≡ carried_by n P
-      → Trained N ws g ps xs ts rate gs W steps (Stopped (record { number = r.number; carried = r.carried; done = 0 })) ps gs W
+  pub train_refused : (steps : ℕ) (r : Refusal) (n : ℕ) → to9 ≡ n → Err r ≡ outcome_of n (carried_by n P)
+      → Trained N ws g ps xs ts rate gs W steps (Err (record { refusal = r; done = 0 })) ps gs W
   unfolding train_fault train_done up_to19 model_after
-  train_refused steps r zero e z p q = absurd (z refl)
-  train_refused steps r (suc n) e z p q = record {
-    answer = rw (e, ← p, q);
+  train_refused steps r zero e y = absurd (refused 0 0 r (sym y) refl)
+  train_refused steps r (suc n) e y = record {
+    answer = rw e (stopped (suc n) _ 0 r (sym y));
     leaves = record { model = rw e; gradients = rw e; work = rw e };
   }
 
-  pub train_done_lem : (steps : ℕ) (r : Training) (ps' gs₁ W₁ gs₂ W₂ : List Float) → to9 ≡ 0
+  pub train_done_lem : (steps : ℕ) (r : Result ℕ Stop) (ps' gs₁ W₁ gs₂ W₂ : List Float) → to9 ≡ 0
       → TrainDone N ws ps xs ts steps rate gs W r ps' gs₁ W₁ → gs₂ ≡ zeros P ++ drop P gs₁
       → W₂ ≡ zeros (2 * nodes_in ws) ++ drop (2 * nodes_in ws) W₁
       → Trained N ws g ps xs ts rate gs W steps r ps' gs₂ W₂
@@ -110,25 +84,21 @@ module _ (N : Net) (ws : List ℕ) (g : Grid) (ps xs ts : List Float) (rate : Fl
       }
 
   -- ---- one step: the same, without the count
-  abbrev answer_of_lem : Training → Outcome
-  answer_of_lem (All n) = Done
-  answer_of_lem (Stopped s) = Not (record { number = s.number; carried = s.carried })
+  abbrev answer_of_lem : Result ℕ Stop → Outcome
+  answer_of_lem (Ok n) = Ok tt
+  answer_of_lem (Err s) = Err s.refusal
 
   same_answer : (n c k : ℕ) → outcome_of n c ≡ answer_of_lem (training_of n c k)
   same_answer zero c k = refl
   same_answer (suc n) c k = refl
 
-  one : (r : Training) (ps' gs' W' : List Float) → Trained N ws g ps xs ts rate gs W 1 r ps' gs' W'
+  one : (r : Result ℕ Stop) (ps' gs' W' : List Float) → Trained N ws g ps xs ts rate gs W 1 r ps' gs' W'
       → Stepped N ws g ps xs ts rate gs W (answer_of_lem r) ps' gs' W'
   one r ps' gs' W' t =
       let refusal = train_fault N ws g ps xs ts rate gs W 1 in
       let done = train_done N ws g ps xs ts rate gs W 1 in
       record { answer = ap answer_of_lem t.answer ∙ sym (same_answer refusal _ done); leaves = t.leaves }
 
-  pub one_done : (n : ℕ) (r : Training) (ps' gs' W' : List Float) → Trained N ws g ps xs ts rate gs W 1 r ps' gs' W' → r ≡ All n
-      → Stepped N ws g ps xs ts rate gs W Done ps' gs' W'
+  pub one_done : (n : ℕ) (r : Result ℕ Stop) (ps' gs' W' : List Float) → Trained N ws g ps xs ts rate gs W 1 r ps' gs' W' → r ≡ Ok n
+      → Stepped N ws g ps xs ts rate gs W (Ok tt) ps' gs' W'
   one_done n r ps' gs' W' t e = rw (ap answer_of_lem e) at (one r ps' gs' W' t)
-
-  pub one_stopped : (s : Stop) (r : Training) (ps' gs' W' : List Float) → Trained N ws g ps xs ts rate gs W 1 r ps' gs' W' → r ≡ Stopped s
-      → Stepped N ws g ps xs ts rate gs W (Not (record { number = s.number; carried = s.carried })) ps' gs' W'
-  one_stopped s r ps' gs' W' t e = rw (ap answer_of_lem e) at (one r ps' gs' W' t)

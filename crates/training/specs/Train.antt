@@ -1,19 +1,18 @@
 -- R10.9 to R10.11: `train_step` and `train`. The steps done are all that were asked for, or those before the first
 -- refused one, and the model is as that many left it; 0 steps make all checks up to 19. Definitions only.
-use Rattle.std.specs.Prelude.{ℕ, zero, suc, ◌*◌, ◌≡◌, List, length, Float}
+use Rattle.std.specs.Prelude.{ℕ, zero, suc, ◌*◌, ◌≡◌, List, length, Float, Err, Ok}
+use Rattle.std.specs.declared.result.Result.{Result}
+use Rattle.refusals.specs.Refusals.{Outcome, ◌otherwise◌, ◌then◌, first_to, done_to, past, none, outcome_of}
 use Rattle.refusals.specs.declared.Refusal.{Refusal}
-use Rattle.refusals.specs.declared.Outcome.{Outcome}
-use Rattle.refusals.specs.Refusals.{◌otherwise◌, ◌then◌, first_to, done_to, past, none, outcome_of}
 use Rattle.spline.specs.declared.Grid.{Grid}
 use Rattle.layers.specs.Net.{Net}
 use Rattle.layers.specs.Widths.{nodes_in}
-use Rattle.passes.specs.Pass.{from11_to18}
 use Rattle.config.specs.Config.{carried_by, parameters_for}
 use Rattle.admission.specs.Admission.{up_to9_in_training, swept}
-use Rattle.training.specs.declared.calls.Training.{Training}
-use Rattle.training.specs.declared.calls.Training.TheVariants.{All, Stopped}
+use Rattle.passes.specs.Pass.{from11_to18}
 use Rattle.update.specs.Update.{rate_sound}
 use Rattle.training_step.specs.Step.{step_fault, stepped}
+use Rattle.training.specs.declared.calls.Stop.{Stop}
 
 -- ---- R3.4: past check 9: 11, the batch, and R10.2: 19, the rate
 unfoldable pub from11_to19 : List Float → List ℕ → List Float → List Float → Float → ℕ
@@ -28,17 +27,17 @@ abbrev pub fault_at : Net → List Float → List ℕ → List Float → List Fl
 fault_at N ps ws xs ts rate s = step_fault N (model_after N ps ws xs ts rate s) ws xs ts rate
 
 -- ---- R10.9, R3.2: the answer of `train`, and the refusal and the steps that it tells
-abbrev pub training_of : ℕ → ℕ → ℕ → Training
-training_of zero carried done = All done
-training_of (suc n) carried done = Stopped (record { number = suc n; carried = carried; done = done })
+abbrev pub training_of : ℕ → ℕ → ℕ → Result ℕ Stop
+training_of zero carried done = Ok done
+training_of (suc n) carried done = Err (record { refusal = record { number = suc n; carried = carried }; done = done })
 
-abbrev pub training_refusal : Training → Refusal
-training_refusal (All steps) = none
-training_refusal (Stopped s) = record { number = s.number; carried = s.carried }
+abbrev pub training_refusal : Result ℕ Stop → Refusal
+training_refusal (Ok steps) = none
+training_refusal (Err s) = s.refusal
 
-abbrev pub steps_done : Training → ℕ
-steps_done (All steps) = steps
-steps_done (Stopped s) = s.done
+abbrev pub steps_done : Result ℕ Stop → ℕ
+steps_done (Ok steps) = steps
+steps_done (Err s) = s.done
 
 -- ---- R10.9, R3.4: the whole calls: the answer, and all lent memory. A step is training of one step (R10.11).
 module _ (N : Net) (ws : List ℕ) (g : Grid) (ps xs ts : List Float) (rate : Float) (gs W : List Float) where
@@ -67,7 +66,7 @@ module _ (N : Net) (ws : List ℕ) (g : Grid) (ps xs ts : List Float) (rate : Fl
     pub work : W' ≡ swept to9 (2 * nodes_in ws) W
 
   -- R10.9: `train`
-  pub record Trained (steps : ℕ) (r : Training) (ps' gs' W' : List Float) : Type 0 where
+  pub record Trained (steps : ℕ) (r : Result ℕ Stop) (ps' gs' W' : List Float) : Type 0 where
     pub answer : r ≡ training_of (train_fault steps) carried (train_done steps)
     pub leaves : TrainingLeaves steps ps' gs' W'
 

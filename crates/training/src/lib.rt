@@ -4,4 +4,4 @@
 
 mod calls;
 
-pub use calls::{Stop, Training, train, train_step};
+pub use calls::{Stop, train, train_step};

@@ -2,14 +2,17 @@
 // answer, and what it must leave in the model and in both slices that it was lent. f32 numbers are words of 32 bits.
 #![tactic(auto)]
 
-mod answers;
 mod calls;
+
+use case_reading::Case;
 
 // A tag that is none of these agrees with nothing.
 pub fn agrees(tag: u8, words: &[u64]) -> bool {
-    match tag {
-        b'O' => calls::agrees(words, true),
-        b'T' => calls::agrees(words, false),
-        _ => false,
-    }
+    let mut case = Case::new(words);
+    let met = match tag {
+        b'O' => calls::train_step(&mut case),
+        b'T' => calls::train(&mut case),
+        _ => None,
+    };
+    met.is_some()
 }

@@ -1,7 +1,7 @@
 -- What a step asks and promises; no part of the calls' meaning. Definitions only.
-use Rattle.std.specs.Prelude.{ℕ, ◌≤◌, ◌≡◌, Bool, true, List, length, take, drop, Float}
+use Rattle.std.specs.Prelude.{ℕ, ◌≤◌, ◌≡◌, List, length, take, drop, Float, Ok}
 use Rattle.floats.specs.Sums.{all_to}
-use Rattle.refusals.specs.Refusals.{past}
+use Rattle.refusals.specs.Refusals.{◌otherwise◌, past, Outcome, outcome_of}
 use Rattle.spline.specs.declared.Grid.{Grid}
 use Rattle.local_basis.specs.Fours.{Finite}
 use Rattle.layers.specs.Net.{Net}
@@ -28,14 +28,14 @@ pub record Rests (ws : List ℕ) (ps gs W gs' W' : List Float) : Type 0 where
   pub work : drop (two_n ws) W' ≡ drop (two_n ws) W
 
 module _ (N : Net) (ws : List ℕ) (ps xs ts : List Float) where
-  -- the batch's gradients, where every row passes 20
-  pub record GatherDone (gs W : List Float) (r : Bool) (gs' W' : List Float) : Type 0 where
-    pub passed : r ≡ all_to (finite_row N ps ws xs) (rows_of ws xs)
-    pub gradients : r ≡ true → take (length ps) gs' ≡ gradient_of N ps ws xs ts
+  -- the batch's gradients, or 20 where a row does not pass it
+  pub record GatherDone (gs W : List Float) (r : Outcome) (gs' W' : List Float) : Type 0 where
+    pub answer : r ≡ outcome_of (all_to (finite_row N ps ws xs) (rows_of ws xs) otherwise 20) 0
+    pub gradients : r ≡ Ok tt → take (length ps) gs' ≡ gradient_of N ps ws xs ts
     pub rests : Rests ws ps gs W gs' W'
 
   -- one step
-  pub record StepDone (rate : Float) (gs W : List Float) (r : ℕ) (ps' gs' W' : List Float) : Type 0 where
-    pub refusal : r ≡ step_fault N ps ws xs ts rate
-    pub model : ps' ≡ past r (stepped N ps ws xs ts rate) ps
+  pub record StepDone (rate : Float) (gs W : List Float) (r : Outcome) (ps' gs' W' : List Float) : Type 0 where
+    pub answer : r ≡ outcome_of (step_fault N ps ws xs ts rate) 0
+    pub model : ps' ≡ past (step_fault N ps ws xs ts rate) (stepped N ps ws xs ts rate) ps
     pub rests : Rests ws ps gs W gs' W'

@@ -1,24 +1,26 @@
-// Inner crate: one step of training on a batch that is sound: gradients gathered from +0.0, then the model moved or left.
+// Inner crate: one step of training on a batch that is sound: gradients gathered from +0.0, then the model moved or
+// left.
 #![tactic(auto)]
 
-ghost use Rattle.exponential.specs.Steps.{Powers};
 ghost use Rattle.layers.specs.Net.{net_of};
 ghost use Rattle.training_step.specs.Stages.{StepReady, GatherDone, StepDone};
 
+use exponential::PowerTable;
+use refusals::Refusal;
 use spline::Grid;
 
-// The batch's gradients from +0.0, in front of `gradients`; false where a row meets 20.
+// The batch's gradients from +0.0, in front of `gradients`, or 20.
 fn gather(
     grid: Grid,
-    table: &[u32; 256],
+    table: &PowerTable,
     widths: &[usize],
     model: &[f32],
     inputs: &[f32],
     targets: &[f32],
     gradients: &mut [f32],
     work: &mut [f32],
-) -> bool
-    requires { StepReady grid widths.now model.now inputs.now targets.now gradients.old work.old × Powers table.now }
+) -> Result<(), Refusal>
+    requires { StepReady grid widths.now model.now inputs.now targets.now gradients.old work.old }
     ensures { GatherDone (net_of grid) widths.now model.now inputs.now targets.now
         gradients.old work.old result gradients.new work.new }
 {
@@ -33,17 +35,17 @@ fn gather(
         inputs,
         targets,
         scale,
-        &mut gradients[0..count],
+        &mut gradients[..count],
         work,
         true,
         true,
     )
 }
 
-// Gathers, then moves all parameters or none: 20, 23, or 0 where the model has moved.
+// Gathers, then moves all parameters or none: 20, then 23.
 pub fn step(
     grid: Grid,
-    table: &[u32; 256],
+    table: &PowerTable,
     widths: &[usize],
     model: &mut [f32],
     inputs: &[f32],
@@ -51,17 +53,12 @@ pub fn step(
     rate: f32,
     gradients: &mut [f32],
     work: &mut [f32],
-) -> u32
-    requires { StepReady grid widths.now model.old inputs.now targets.now gradients.old work.old × Powers table.now }
+) -> Result<(), Refusal>
+    requires { StepReady grid widths.now model.old inputs.now targets.now gradients.old work.old }
     ensures { StepDone (net_of grid) widths.now model.old inputs.now targets.now rate
         gradients.old work.old result model.new gradients.new work.new }
 {
-    if !gather(grid, table, widths, model, inputs, targets, gradients, work) {
-        return 20;
-    }
+    gather(grid, table, widths, model, inputs, targets, gradients, work)?;
     let count = model.len();
-    if update::move_or_leave(model, &gradients[0..count], rate) {
-        return 0;
-    }
-    23
+    update::move_or_leave(model, &gradients[..count], rate)
 }

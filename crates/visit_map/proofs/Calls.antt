@@ -1,19 +1,19 @@
 -- The whole call by its stages: refused before the work, refused by 10 or 11, or marked and swept. Assumes nothing.
+use Rattle.std.specs.Prelude.{Err, Ok}
 use mathlib.Core.Path.{◌≡◌, refl, sym, ap, ◌∙◌}
-use mathlib.Core.Bool.{true, false}
+use mathlib.Core.Bool.{Bool, true, false}
 use mathlib.Core.List.{List, ◌++◌}
 use Prim.Native.Nat.{ℕ, zero, suc, ◌+◌, ◌<◌}
 use native.Mathlib.Omega.{arith}
 use lib.Dec.{eqb}
 use lib.ListN.{length, drop}
 use lib.Ieee.{Float}
-use borrow.Author.Tests.{eq-eqb, ne_eqb, eqb-true}
+use borrow.Author.Tests.{eq-eqb, ne_eqb, eqb-true, eqb-false}
 use Rattle.floats.specs.Sums.{zeros, all_finite}
 use Rattle.refusals.specs.declared.Refusal.{Refusal}
-use Rattle.refusals.specs.declared.Outcome.{Outcome}
-use Rattle.refusals.specs.declared.Outcome.TheVariants.{Done, Refused}
-use Rattle.refusals.specs.Refusals.{◌otherwise◌, ◌then◌, first_to, done_to, past, outcome_of}
+use Rattle.refusals.specs.Refusals.{◌otherwise◌, ◌then◌, first_to, done_to, past, Outcome, outcome_of}
 use Rattle.refusals.proofs.Firsts.{then_first, both_pass, test_passes, past_stopped, first_stop, done_stop}
+use Rattle.refusals.proofs.Firsts.{not_refused, refused}
 use Rattle.spline.specs.declared.Grid.{Grid}
 use Rattle.layers.specs.Net.{Net}
 use Rattle.layers.specs.Widths.{parameters_in}
@@ -30,9 +30,6 @@ use Rattle.visit_map.specs.Visits.{marks_of, map_up_to11, visit_refusal, visit_c
 use Rattle.visit_map.specs.Steps.{Unswept}
 
 -- ---- an answer by n checks and then `rows`, where the checks refuse and where they pass
-abbrev pub refused_with : ℕ → ℕ → Outcome
-refused_with n carried = Refused (record { number = n; carried = carried })
-
 checks_stop : (n rows done carried : ℕ) → (n ≡ 0 → ⊥)
     → outcome_of n carried ≡ outcome_of (n then rows) (past n done carried)
 checks_stop zero rows done carried h = absurd (h refl)
@@ -47,14 +44,17 @@ past_passed : {A : Type 0} (n : ℕ) (new old : A) → n ≡ 0 → past n new ol
 past_passed zero new old e = refl
 past_passed (suc n) new old e = absurd (omega (arith, e))
 
--- the rows' part of it: the first that is refused, and none
-refused_by_lem : (n carried : ℕ) → (n ≡ 0 → ⊥) → refused_with n carried ≡ outcome_of n carried
-refused_by_lem zero carried h = absurd (h refl)
-refused_by_lem (suc n) carried h = refl
+-- the rows' part of it: the refusal of the first row that is refused, which carries its number
+with_row : (n r : ℕ) (e : Refusal) → Err e ≡ outcome_of n 0
+    → Err (record { number = e.number; carried = r }) ≡ outcome_of n r
+with_row zero r e p = cc
+with_row (suc n) r e p = let m : e.number ≡ suc n = cc in rw m
 
-row_stops : (f : ℕ → ℕ) (r n : ℕ) → r < n → first_to f r ≡ 0 → (f r ≡ 0 → ⊥)
-    → refused_with (f r) r ≡ outcome_of (first_to f n) (done_to f n)
-row_stops f r n l e h = rw (first_stop f r n l e h, done_stop f r n l e h) (refused_by_lem (f r) r h)
+row_stops : (f : ℕ → ℕ) (r n : ℕ) (e : Refusal) → r < n → first_to f r ≡ 0 → Err e ≡ outcome_of (f r) 0
+    → Err (record { number = e.number; carried = r }) ≡ outcome_of (first_to f n) (done_to f n)
+row_stops f r n e l q p =
+    let h = refused (f r) 0 e (sym p) in
+    rw (first_stop f r n l q h, done_stop f r n l q h) (with_row (f r) r e p)
 
 -- ---- what is known past check 11
 pub record Past11 (ws : List ℕ) (g : Grid) (ps : List Float) (first second map : ℕ) : Type 0 where
@@ -86,9 +86,18 @@ module _ (ws : List ℕ) (g : Grid) (ps : List Float) (first second map : ℕ) w
     unfolding map_up_to11
     stops11 h w = rw (e, eq-eqb map total h, w)
 
-    pub passes11 : map ≡ total → all_finite ps ≡ true → map_up_to11 ws g ps first second map ≡ 0
+    -- both let the call through
+    pub map_fits : {r : Outcome} → r ≡ outcome_of (eqb map (length ps) otherwise 10) 0 → r ≡ Ok tt → map ≡ total
+    map_fits p q =
+        eqb-true map (length ps) (test_passes _ 9 (not_refused _ 0 (sym p ∙ q)))
+        ∙ (past9 ws g (length ps) first second e).model
+
+    pub passes11 : {t : Bool} {r : Outcome} → map ≡ total → t ≡ all_finite ps → r ≡ outcome_of (t otherwise 11) 0
+        → r ≡ Ok tt → map_up_to11 ws g ps first second map ≡ 0
     unfolding map_up_to11
-    passes11 h w = rw (e, eq-eqb map total h, w)
+    passes11 {t} h f p q =
+        let w : t ≡ true = test_passes _ 10 (not_refused _ 0 (sym p ∙ q)) in
+        rw (e, eq-eqb map total h, ← f, w)
 
 module _ (N : Net) (ws : List ℕ) (g : Grid) (ps xs a b : List Float) (ms : List ℕ) where
   abbrev P : ℕ
@@ -114,24 +123,35 @@ module _ (N : Net) (ws : List ℕ) (g : Grid) (ps xs a b : List Float) (ms : Lis
   unfolding visit_marks
   stopped_map h = sym (past_stopped checks _ ms h)
 
-  stopped : (n : ℕ) → checks ≡ suc n → carried_by (suc n) P ≡ 0
-      → Unswept N ws g ps xs a b ms (refused_with (suc n) 0) a b ms
-  stopped n e c =
-      let h : (checks ≡ 0 → ⊥) = λ (z : checks ≡ 0). omega (arith, e, z) in
+  stopped : (n : ℕ) (e : Refusal) → checks ≡ suc n → carried_by (suc n) P ≡ 0 → Err e ≡ outcome_of (suc n) 0
+      → Unswept N ws g ps xs a b ms (Err e) a b ms
+  stopped n e q c p =
+      let h : (checks ≡ 0 → ⊥) = λ (z : checks ≡ 0). omega (arith, q, z) in
       record {
-        answer = ap (outcome_of (suc n)) (sym c) ∙ ap (λ (k : ℕ). outcome_of k (carried_by k P)) (sym e)
+        answer = p ∙ ap (outcome_of (suc n)) (sym c) ∙ ap (λ (k : ℕ). outcome_of k (carried_by k P)) (sym q)
             ∙ stopped_answer h;
         map = stopped_map h;
         first = λ m l. refl;
         second = λ m l. refl;
       }
 
-  pub wrong_map : to9 ≡ 0 → (length ms ≡ P → ⊥) → Unswept N ws g ps xs a b ms (refused_with 10 0) a b ms
-  wrong_map e h = stopped 9 (stops10 ws g ps (length a) (length b) (length ms) e h) refl
+  pub wrong_map : (e : Refusal) → to9 ≡ 0 → Err e ≡ outcome_of (eqb (length ms) (length ps) otherwise 10) 0
+      → Unswept N ws g ps xs a b ms (Err e) a b ms
+  wrong_map e z p = go (eqb (length ms) (length ps)) refl p
+    where
+      go : (t : Bool) → eqb (length ms) (length ps) ≡ t → Err e ≡ outcome_of (t otherwise 10) 0
+          → Unswept N ws g ps xs a b ms (Err e) a b ms
+      go true q p = cc
+      go false q p =
+          let h = eqb-false (length ms) (length ps) q in
+          let m = (past9 ws g (length ps) (length a) (length b) z).model in
+          stopped 9 e (stops10 ws g ps (length a) (length b) (length ms) z (λ i. h (i ∙ sym m))) refl p
 
-  pub wild_model : to9 ≡ 0 → length ms ≡ P → all_finite ps ≡ false
-      → Unswept N ws g ps xs a b ms (refused_with 11 0) a b ms
-  wild_model e h w = stopped 10 (stops11 ws g ps (length a) (length b) (length ms) e h w) refl
+  pub wild_model : (t : Bool) (e : Refusal) → to9 ≡ 0 → length ms ≡ P → t ≡ all_finite ps
+      → Err e ≡ outcome_of (t otherwise 11) 0 → Unswept N ws g ps xs a b ms (Err e) a b ms
+  wild_model true e z h q p = cc
+  wild_model false e z h q p =
+      stopped 10 e (stops11 ws g ps (length a) (length b) (length ms) z h (sym q)) refl p
 
   -- ---- the rows: one is refused, or none
   module _ {a' b' : List Float} {ms' : List ℕ} (e : checks ≡ 0) (first : Past ws a a') (second : Past ws b b') where
@@ -146,21 +166,21 @@ module _ (N : Net) (ws : List ℕ) (g : Grid) (ps xs a b : List Float) (ms : Lis
       second = second;
     }
 
-    pub row_refused : (r k : ℕ) → r < rows_of ws xs → first_to f r ≡ 0 → k ≡ f r → (k ≡ 0 → ⊥) → ms' ≡ blank P
-        → Unswept N ws g ps xs a b ms (refused_with k r) a' b' ms'
-    row_refused r k l p q z m =
-        let h : (f r ≡ 0 → ⊥) = λ (i : f r ≡ 0). z (q ∙ i) in
+    pub row_refused : (r : ℕ) (e : Refusal) → r < rows_of ws xs → first_to f r ≡ 0 → Err e ≡ outcome_of (f r) 0
+        → ms' ≡ blank P → Unswept N ws g ps xs a b ms (Err (record { number = e.number; carried = r })) a' b' ms'
+    row_refused r e l q p m =
+        let h = refused (f r) 0 e (sym p) in
         let some : (first_to f (rows_of ws xs) ≡ 0 → ⊥) =
-        λ (i : first_to f (rows_of ws xs) ≡ 0). h (sym (first_stop f r (rows_of ws xs) l p h) ∙ i) in
-        from_rows (refused_with k r) (ap (λ (i : ℕ). refused_with i r) q ∙ row_stops f r (rows_of ws xs) l p h)
+        λ (i : first_to f (rows_of ws xs) ≡ 0). h (sym (first_stop f r (rows_of ws xs) l q h) ∙ i) in
+        from_rows (Err (record { number = e.number; carried = r })) (row_stops f r (rows_of ws xs) e l q p)
         (m ∙ sym (past_stopped _ _ (blank P) some))
 
     pub all_rows : first_to f (rows_of ws xs) ≡ 0 → ms' ≡ marks_of N ps ws xs (rows_of ws xs) P
-        → Unswept N ws g ps xs a b ms Done a' b' ms'
-    all_rows p m = from_rows Done (rw p) (m ∙ sym (past_passed _ _ (blank P) p))
+        → Unswept N ws g ps xs a b ms (Ok tt) a' b' ms'
+    all_rows p m = from_rows (Ok tt) (rw p) (m ∙ sym (past_passed _ _ (blank P) p))
 
   -- ---- the checks up to 9 refuse, or the work is done and swept
-  pub not_begun : (r : Refusal) → Rejected to9 (sizes_of ws g) r → Visited N ws g ps xs a b ms (Refused r) a b ms
+  pub not_begun : (r : Refusal) → Rejected to9 (sizes_of ws g) r → Visited N ws g ps xs a b ms (Err r) a b ms
   unfolding map_up_to11
   not_begun r j =
       let same : to9 ≡ checks = then_first to9 _ j.stopped in

@@ -1,20 +1,23 @@
 -- The map row by row: where it stands before row r, a row more, a row that is refused, and the end. Assumes nothing.
+use Rattle.std.specs.Prelude.{Ok, Err}
 use mathlib.Core.Path.{◌≡◌, refl, sym, ap, ◌∙◌}
 use mathlib.Core.Bool.{Bool, true, false, cond, ◌||◌}
-use mathlib.Core.List.{List, ◌++◌}
-use Prim.Native.Nat.{ℕ, ◌+◌, ◌<◌}
+use mathlib.Core.List.{List, [], ◌∷◌, ◌++◌}
+use Prim.Native.Nat.{ℕ, zero, suc, ◌+◌, ◌<◌}
 use native.Mathlib.Nat.{le_of_eq}
 use native.Mathlib.Numerals.{add-one}
-use lib.ListN.{length, drop, get_or}
+use lib.ListN.{length, get_or, replicate}
 use lib.Seq.{ext_get_or}
 use lib.Ieee.{Float}
-use Rattle.floats.proofs.Loops.{tab_length, tab_whole, table_get}
+use Rattle.std.proofs.lemmas.Grind.{replicate_next}
+use Rattle.floats.specs.Sums.{tabulate}
+use Rattle.floats.proofs.Loops.{tab_length, table_get}
 use Rattle.spline.specs.declared.Grid.{Grid}
 use Rattle.layers.specs.Net.{Net, net_of}
 use Rattle.layers.specs.Widths.{input_width, parameters_in}
-use Rattle.refusals.specs.declared.Outcome.TheVariants.{Done}
-use Rattle.refusals.specs.Refusals.{first_to}
-use Rattle.refusals.proofs.Firsts.{first_none, first_more}
+use Rattle.refusals.specs.declared.Refusal.{Refusal}
+use Rattle.refusals.specs.Refusals.{first_to, Outcome}
+use Rattle.refusals.proofs.Firsts.{first_none, first_more, not_refused}
 use Rattle.batches.specs.Batch.{row_at}
 use Rattle.passes.specs.Pass.{rows_of, refusal_at}
 use Rattle.passes.proofs.Passes.{Kept, kept_all}
@@ -27,7 +30,7 @@ use Rattle.touched_row.specs.Touched.{row_touched}
 use Rattle.touched_row.specs.RowMarks.{Markable, RowMarked}
 use Rattle.visit_map.specs.Visits.{any_to, touched_in, byte_of, byte_at, marks_of, map_up_to11}
 use Rattle.visit_map.specs.Steps.{Unswept}
-use Rattle.visit_map.proofs.Calls.{refused_with, past11, row_refused, all_rows}
+use Rattle.visit_map.proofs.Calls.{past11, row_refused, all_rows}
 
 -- a mark more is an "or"
 either : (a b : Bool) → cond b 1 (byte_of a) ≡ byte_of (a || b)
@@ -36,9 +39,13 @@ either true false = refl
 either false true = refl
 either false false = refl
 
--- all k bytes of a map of n were cleared
-cleared : (n k : ℕ) (d ms : List ℕ) → k ≡ length d → length d ≡ n → ms ≡ blank k ++ drop k d → ms ≡ blank n
-cleared n k d ms l e p = tab_whole _ k d ms p l ∙ ap blank e
+-- a map that was filled with 0 is blank
+filled : (n : ℕ) → replicate n 0 ≡ blank n
+unfolding tabulate
+filled zero = refl
+filled (suc n) =
+    ap (λ (k : ℕ). replicate {A = ℕ} k 0) (sym (add-one n)) ∙ replicate_next {X = ℕ} n 0
+    ∙ ap (λ (l : List ℕ). l ++ 0 ∷ []) (filled n)
 
 module _ (N : Net) (ps : List Float) (ws : List ℕ) (xs : List Float) (n : ℕ) where
   pub marks_length : (r : ℕ) (ms : List ℕ) → ms ≡ marks_of N ps ws xs r n → length ms ≡ n
@@ -74,12 +81,12 @@ pub record Visiting (N : Net) (ps : List Float) (ws : List ℕ) (xs : List Float
   pub bytes : ms ≡ marks_of N ps ws xs r n
   pub kept : Kept ws a₀ b₀ a b
 
--- the map was cleared
+-- the map was filled with 0
 pub before_first : {N : Net} {ps : List Float} {ws : List ℕ} {xs : List Float} {n : ℕ} {a b : List Float}
-    (d ms : List ℕ) → length d ≡ n → ms ≡ blank (length d) ++ drop (length d) d → Visiting N ps ws xs n a b 0 a b ms
+    (d ms : List ℕ) → length d ≡ n → ms ≡ replicate (length d) 0 → Visiting N ps ws xs n a b 0 a b ms
 before_first {N} {ps} {ws} {xs} {n} {a} {b} d ms e p = record {
   sound = first_none _;
-  bytes = cleared n (length d) d ms refl e p ∙ marks_none N ps ws xs n;
+  bytes = p ∙ ap (λ (k : ℕ). replicate k 0) e ∙ filled n ∙ marks_none N ps ws xs n;
   kept = kept_all ws a b;
 }
 
@@ -90,15 +97,21 @@ pub record RowTurn (g : Grid) (ps : List Float) (ws : List ℕ) (xs a₀ b₀ : 
   pub more : r < rows_of ws xs
   pub visiting : Visiting (net_of g) ps ws xs (parameters_in (g.intervals + 5) ws) a₀ b₀ r a b ms
 
--- ---- and after it was marked, with the number k
-pub record RowLeft (g : Grid) (ps : List Float) (ws : List ℕ) (xs a₀ b₀ : List Float) (ms₀ : List ℕ) (r k : ℕ)
-    (a b : List Float) (ms : List ℕ) : Type 0 where
+-- ---- and after it was marked, which answered k
+pub record RowLeft (g : Grid) (ps : List Float) (ws : List ℕ) (xs a₀ b₀ : List Float) (ms₀ : List ℕ) (r : ℕ)
+    (k : Outcome) (a b : List Float) (ms : List ℕ) : Type 0 where
   pub checks : map_up_to11 ws g ps (length a₀) (length b₀) (length ms₀) ≡ 0
   pub more : r < rows_of ws xs
   pub sound : first_to (refusal_at (net_of g) ps ws xs) r ≡ 0
   pub ran_row : RanRow (net_of g) ps ws xs a₀ b₀ r a b k
   pub size : length ms ≡ parameters_in (g.intervals + 5) ws
-  pub bytes : k ≡ 0 → ms ≡ marks_of (net_of g) ps ws xs (r + 1) (parameters_in (g.intervals + 5) ws)
+  pub bytes : k ≡ Ok tt → ms ≡ marks_of (net_of g) ps ws xs (r + 1) (parameters_in (g.intervals + 5) ws)
+
+pub in_row_turn : {g : Grid} {ps : List Float} {ws : List ℕ} {xs a₀ b₀ : List Float} {ms₀ : List ℕ} {r : ℕ}
+    {a b : List Float} {ms : List ℕ} → map_up_to11 ws g ps (length a₀) (length b₀) (length ms₀) ≡ 0
+    → r < rows_of ws xs → Visiting (net_of g) ps ws xs (parameters_in (g.intervals + 5) ws) a₀ b₀ r a b ms
+    → RowTurn g ps ws xs a₀ b₀ ms₀ r a b ms
+in_row_turn e h v = record { checks = e; more = h; visiting = v }
 
 module _ {g : Grid} {ps : List Float} {ws : List ℕ} {xs a₀ b₀ : List Float} {ms₀ : List ℕ} {r : ℕ} {a b : List Float}
     {ms : List ℕ} (t : RowTurn g ps ws xs a₀ b₀ ms₀ r a b ms) where
@@ -116,7 +129,7 @@ module _ {g : Grid} {ps : List Float} {ws : List ℕ} {xs a₀ b₀ : List Float
   }
 
   -- and what it leaves
-  pub row_left : {k : ℕ} {row a' b' : List Float} {ms' : List ℕ} → row ≡ row_at xs (input_width ws) r
+  pub row_left : {k : Outcome} {row a' b' : List Float} {ms' : List ℕ} → row ≡ row_at xs (input_width ws) r
       → RowMarked (net_of g) ps ws row a b ms k a' b' ms' → length a' ≡ length a → length b' ≡ length b
       → length ms' ≡ length ms → RowLeft g ps ws xs a₀ b₀ ms₀ r k a' b' ms'
   row_left {k} {row} {a'} {b'} {ms'} e y la lb lm =
@@ -131,29 +144,29 @@ module _ {g : Grid} {ps : List Float} {ws : List ℕ} {xs a₀ b₀ : List Float
         bytes = λ p. marks_more _ _ _ _ _ r ms ms' v.bytes (z.bytes p);
       }
 
-module _ {g : Grid} {ps : List Float} {ws : List ℕ} {xs a₀ b₀ : List Float} {ms₀ : List ℕ} {r k : ℕ} {a b : List Float}
+module _ {g : Grid} {ps : List Float} {ws : List ℕ} {xs a₀ b₀ : List Float} {ms₀ : List ℕ} {r : ℕ} {k : Outcome} {a b : List Float}
     {ms : List ℕ} (t : RowLeft g ps ws xs a₀ b₀ ms₀ r k a b ms) where
   -- a row more
-  pub one_row : k ≡ 0 → Visiting (net_of g) ps ws xs (parameters_in (g.intervals + 5) ws) a₀ b₀ (r + 1) a b ms
+  pub one_row : k ≡ Ok tt → Visiting (net_of g) ps ws xs (parameters_in (g.intervals + 5) ws) a₀ b₀ (r + 1) a b ms
   one_row e = record {
-    sound = first_more _ r t.sound (sym t.ran_row.refusal ∙ e);
+    sound = first_more _ r t.sound (not_refused _ 0 (sym t.ran_row.refusal ∙ e));
     bytes = t.bytes e;
     kept = t.ran_row.kept;
   }
 
-  -- it was refused, and the map cleared
-  pub stopped_at : {n : ℕ} {ms' : List ℕ} → (k ≡ 0 → ⊥) → n ≡ length ms → ms' ≡ blank n ++ drop n ms
-      → Unswept (net_of g) ws g ps xs a₀ b₀ ms₀ (refused_with k r) a b ms'
-  stopped_at {n} {ms'} h l p =
+  -- it was refused, and the map filled with 0
+  pub stopped_at : {e : Refusal} {ms' : List ℕ} → k ≡ Err e → ms' ≡ replicate (length ms) 0
+      → Unswept (net_of g) ws g ps xs a₀ b₀ ms₀ (Err (record { number = e.number; carried = r })) a b ms'
+  stopped_at {e} {ms'} h p =
       let y = t.ran_row in
-      row_refused (net_of g) ws g ps xs a₀ b₀ ms₀ t.checks y.kept.first y.kept.second r k t.more t.sound
-      y.refusal h (cleared _ n ms ms' l t.size p)
+      row_refused (net_of g) ws g ps xs a₀ b₀ ms₀ t.checks y.kept.first y.kept.second r e t.more t.sound
+      (sym h ∙ y.refusal) (p ∙ ap (λ (n : ℕ). replicate n 0) t.size ∙ filled _)
 
 -- ---- the end
 pub visited_all : {g : Grid} {ps : List Float} {ws : List ℕ} {xs a₀ b₀ : List Float} {ms₀ : List ℕ} {r : ℕ}
     {a b : List Float} {ms : List ℕ} → map_up_to11 ws g ps (length a₀) (length b₀) (length ms₀) ≡ 0 → r ≡ rows_of ws xs
     → Visiting (net_of g) ps ws xs (parameters_in (g.intervals + 5) ws) a₀ b₀ r a b ms
-    → Unswept (net_of g) ws g ps xs a₀ b₀ ms₀ Done a b ms
+    → Unswept (net_of g) ws g ps xs a₀ b₀ ms₀ (Ok tt) a b ms
 visited_all {g} {ps} {ws} {xs} {a₀} {b₀} {ms₀} {r} c e v =
     all_rows (net_of g) ws g ps xs a₀ b₀ ms₀ c v.kept.first v.kept.second (rw (← e) v.sound)
     (v.bytes ∙ ap (λ (k : ℕ). marks_of (net_of g) ps ws xs k (parameters_in (g.intervals + 5) ws)) e)

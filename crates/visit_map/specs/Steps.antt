@@ -1,7 +1,6 @@
 -- What the steps inside the call promise: no part of its meaning. Definitions only.
 use Rattle.std.specs.Prelude.{ℕ, ◌≡◌, List, Float}
-use Rattle.refusals.specs.declared.Outcome.{Outcome}
-use Rattle.refusals.specs.Refusals.{outcome_of}
+use Rattle.refusals.specs.Refusals.{Outcome, outcome_of}
 use Rattle.spline.specs.declared.Grid.{Grid}
 use Rattle.layers.specs.Net.{Net}
 use Rattle.passes.specs.Turns.{Past}

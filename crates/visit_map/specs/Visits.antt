@@ -1,8 +1,7 @@
 -- R12.1 to R12.4: the visit map, one byte for each parameter. Definitions only.
 use Rattle.std.specs.Prelude.{ℕ, zero, suc, ◌≡◌, Bool, true, false, ◌||◌, List, eqb, length, get_or, Float}
 use Rattle.floats.specs.Sums.{tabulate, all_finite}
-use Rattle.refusals.specs.declared.Outcome.{Outcome}
-use Rattle.refusals.specs.Refusals.{◌otherwise◌, ◌then◌, past, outcome_of}
+use Rattle.refusals.specs.Refusals.{◌otherwise◌, ◌then◌, past, Outcome, outcome_of}
 use Rattle.spline.specs.declared.Grid.{Grid}
 use Rattle.layers.specs.Net.{Net}
 use Rattle.layers.specs.Widths.{input_width, widest_in}

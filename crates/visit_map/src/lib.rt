@@ -9,8 +9,8 @@ ghost use Rattle.visit_map.specs.Visits.{map_up_to11, Visited};
 ghost use Rattle.visit_map.specs.Steps.{Unswept};
 
 use admission::check_work;
-use config::Checked;
-use refusals::{Outcome, Refusal};
+use exponential::PowerTable;
+use refusals::{Refusal, refuse_unless};
 use spline::Grid;
 
 // Past check 11: rows in order, up to the first that is refused. Then no mark stays.
@@ -22,7 +22,7 @@ fn mark_rows(
     first: &mut [f32],
     second: &mut [f32],
     map: &mut [u8],
-) -> Outcome
+) -> Result<(), Refusal>
     requires { map_up_to11 widths.now grid model.now (length first.old) (length second.old) (length map.old)
         ≡ 0 }
     ensures { Unswept (net_of grid) widths.now grid model.now inputs.now
@@ -30,19 +30,20 @@ fn mark_rows(
         map.new }
 {
     let w = widths[0];
-    let rows = batches::rows_in(inputs.len(), w);
-    let bytes = map.len();
-    let table = exponential::scaled_powers();
-    touched_layer::unmark(map, bytes);
-    for r in 0..rows {
+    let table = PowerTable::new();
+    map.fill(0);
+    for r in 0..batches::rows_in(inputs.len(), w) {
         let row = batches::row(inputs, w, r);
-        let number = touched_row::mark_row(grid, &table, widths, model, row, first, second, map);
-        if number != 0 {
-            touched_layer::unmark(map, bytes);
-            return Outcome::Refused(Refusal { number, carried: r });
+        let marked = touched_row::mark_row(grid, &table, widths, model, row, first, second, map);
+        if let Err(refusal) = marked {
+            map.fill(0);
+            return Err(Refusal {
+                carried: r,
+                ..refusal
+            });
         }
     }
-    Outcome::Done
+    Ok(())
 }
 
 // Past check 9: 10, 11, and then the rows. The model is P numbers long here.
@@ -54,24 +55,14 @@ fn visit_sound(
     first: &mut [f32],
     second: &mut [f32],
     map: &mut [u8],
-) -> Outcome
+) -> Result<(), Refusal>
     requires { up_to9 widths.now grid (length model.now) (length first.old) (length second.old) ≡ 0 }
     ensures { Unswept (net_of grid) widths.now grid model.now inputs.now
         first.old second.old map.old result first.new second.new
         map.new }
 {
-    if map.len() != model.len() {
-        return Outcome::Refused(Refusal {
-            number: 10,
-            carried: 0,
-        });
-    }
-    if !floats::all_finite(model) {
-        return Outcome::Refused(Refusal {
-            number: 11,
-            carried: 0,
-        });
-    }
+    refuse_unless(map.len() == model.len(), 10)?;
+    refuse_unless(floats::all_finite(model), 11)?;
     mark_rows(grid, widths, model, inputs, first, second, map)
 }
 
@@ -84,20 +75,14 @@ pub fn visit_map(
     first: &mut [f32],
     second: &mut [f32],
     map: &mut [u8],
-) -> Outcome
+) -> Result<(), Refusal>
     ensures { Visited (net_of grid) widths.now grid model.now inputs.now
         first.old second.old map.old result first.new second.new
         map.new }
 {
-    let checked = check_work(widths, grid, model.len(), first.len(), second.len());
-    match checked {
-        Checked::Refused(refusal) => Outcome::Refused(refusal),
-        Checked::Sound(sizes) => {
-            let answer = visit_sound(grid, widths, model, inputs, first, second, map);
-            let widest = sizes.widest;
-            floats::clear(first, widest);
-            floats::clear(second, widest);
-            answer
-        }
-    }
+    let sizes = check_work(widths, grid, model.len(), first.len(), second.len())?;
+    let answer = visit_sound(grid, widths, model, inputs, first, second, map);
+    floats::clear(first, sizes.widest);
+    floats::clear(second, sizes.widest);
+    answer
 }

@@ -1,9 +1,8 @@
 -- What a loop that writes words needs. Assumes nothing.
 use mathlib.Core.Path.{◌≡◌, refl, ◌∙◌}
-use mathlib.Core.List.{List, [], ◌∷◌, ◌++◌}
+use mathlib.Core.List.{List, ◌++◌}
 use Prim.Native.Nat.{ℕ, ◌+◌, ◌-◌, ◌*◌, ◌≤◌}
-use native.Mathlib.Omega.{arith}
-use lib.ListN.{length, take, drop, set, get_or}
+use lib.ListN.{length, take, drop, get_or}
 use lib.Ieee.{Float, binary32, to_bits}
 use borrow.Rule.Slice.PartMut.{put_mid}
 use Rattle.floats.specs.Sums.{at}
@@ -19,15 +18,6 @@ bits_in xs i = to_bits binary32 (at xs i)
 
 abbrev bytes_at : (ℕ → ℕ) → ℕ → List ℕ
 bytes_at f i = bytes_of (f i)
-
--- a word is four stores
-pub four_stores : (b : List ℕ) (w x y z : ℕ) → 4 ≤ length b
-    → set (set (set (set b 0 w) 1 x) 2 y) 3 z ≡ w ∷ x ∷ y ∷ z ∷ drop 4 b
-four_stores [] w x y z h = absurd (omega arith)
-four_stores (b0 ∷ []) w x y z h = absurd (omega arith)
-four_stores (b0 ∷ b1 ∷ []) w x y z h = absurd (omega arith)
-four_stores (b0 ∷ b1 ∷ b2 ∷ []) w x y z h = absurd (omega arith)
-four_stores (b0 ∷ b1 ∷ b2 ∷ b3 ∷ b) w x y z h = refl
 
 pub four : (f : ℕ → ℕ) (i : ℕ) → length (bytes_at f i) ≡ 4
 unfolding bytes_of
@@ -57,3 +47,6 @@ unfolding packed
 pack_more f j w d e y p l q r =
     part_more (bytes_at f) 4 (four f) j d e y p l
     (λ h. r ∙ rw (q, rest (j * 4) e, h))
+
+-- a loop that writes words: none yet, and one more
+pub ruleset pack_steps = (pack_none, pack_more)

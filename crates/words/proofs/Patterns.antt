@@ -1,31 +1,14 @@
 -- Patterns of 32 bits: which are NaN's, which are finite numbers'. Assumes nothing.
 use mathlib.Core.Path.{◌≡◌, refl, sym, ◌∙◌}
 use mathlib.Core.Bool.{Bool, true, false, not, cond}
-use Prim.Native.Nat.{ℕ, zero, suc, ◌+◌, ◌/◌, ◌%◌, ◌≤◌, ◌<◌}
+use Prim.Native.Nat.{ℕ, zero, suc, ◌+◌, ◌/◌, ◌%◌, ◌<◌}
 use native.Mathlib.Omega.{arith}
-use borrow.Author.Tests.{lt-ltb, le-ltb, eq-eqb, ne_eqb, ltb-true, ltb-false}
+use borrow.Author.Tests.{eq-eqb, ne_eqb, ltb-true, ltb-false}
 use lib.Dec.{T, ltb, eqb}
-use lib.Ieee.{Float, nan, inf, fin, binary32, odd, of_fields, of_bits, is_nan, nan_bits}
-use lib.Ieee.Bits.{nan_bits_is, nan_bits_above}
+use lib.Ieee.{Float, nan, inf, fin, binary32, odd, of_fields, of_bits, is_nan}
 use lib.Ieee.Scale.{finite}
 
-is_nan_lem : (x : Float) → is_nan x ≡ true → x ≡ nan
-unfolding is_nan
-is_nan_lem nan e = refl
-is_nan_lem (inf s) e = cc
-is_nan_lem (fin s m k) e = cc
-
--- with the sign taken off, the patterns above the infinity's are NaN's
-pub nan_pattern : (bits : ℕ) → 0x7f80_0000 < bits % 0x8000_0000 → of_bits binary32 bits ≡ nan
-nan_pattern bits h =
-    is_nan_lem (of_bits binary32 bits)
-    (sym (nan_bits_is binary32 bits) ∙ nan_bits_above binary32 bits ∙ lt-ltb 0x7f80_0000 (bits % 0x8000_0000) h)
-
-pub number_pattern : (bits : ℕ) → bits % 0x8000_0000 ≤ 0x7f80_0000 → T (not (nan_bits binary32 bits))
-number_pattern bits h =
-    rw (nan_bits_above binary32 bits ∙ le-ltb 0x7f80_0000 (bits % 0x8000_0000) h) tt
-
--- those below it are finite numbers'
+-- the patterns below the infinity's, with the sign taken off, are finite numbers'
 odd_finite : (d : ℕ) (s : Bool) (q k l : ℕ) → finite (odd d s q k l) ≡ true
 unfolding odd
 odd_finite d s zero k l = refl

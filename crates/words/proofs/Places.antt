@@ -1,15 +1,16 @@
 -- A word that was written is read again, and words that were read, written again, are the bytes they were.
 -- Assumes nothing.
 use Prim.Native.Nat.{ℕ, zero, suc, ◌+◌, ◌*◌, ◌/◌, ◌%◌, ◌^◌, ◌≤◌, ◌<◌}
-use native.Mathlib.Nat.{div-div-eq-div-mul, div-add-mod', mod-eq_of_lt}
 use native.Mathlib.Nat.{add-zero, add_assoc, suc-mul, eq-or-lt_of_le, le_of_suc-le-suc, lt-suc_self}
-use native.Mathlib.Numerals.{add-one}
 use native.Mathlib.Omega.{arith}
 use mathlib.Core.Path.{◌≡◌, refl, sym, ap, ◌∙◌}
 use mathlib.Core.Logic.{inl, inr}
-use mathlib.Core.List.{List, [], ◌∷◌, ◌++◌, append_assoc}
-use lib.ListN.{length, get_or, take, drop}
-use lib.Seq.{get_or-append-add, drop-cons, take-add, drop-drop}
+use mathlib.Core.List.{List, ◌++◌, append_assoc}
+use lib.ListN.{length, get_or, take, drop, length-take, length-drop}
+use lib.Seq.{get_or-append-add, take-add, drop-drop}
+use Rattle.std.proofs.lemmas.Bool.{cases_lt}
+use Rattle.std.proofs.lemmas.List.{get_or-take, get_or-drop, get_or_past}
+use Rattle.std.proofs.lemmas.Nat.{le_bytes_4, from_le_bytes-to_le_bytes_4}
 use Rattle.floats.specs.Sums.{flat_to}
 use Rattle.words.specs.Words.{Bytes, word_at, bytes_of, packed}
 use Rattle.words.proofs.Packs.{packed_length}
@@ -26,30 +27,9 @@ skip a r n k e =
     (rw (← e) (get_or-append-add a r k 0)))
 
 -- ---- its four bytes and back
-div_again : (w m n : ℕ) → w / (m * n) ≡ w / m / n
-div_again w m n = sym (div-div-eq-div-mul w m n)
-
--- from the quotients by 256 and their remainders
-sum_digits : (w q1 q2 q3 r0 r1 r2 : ℕ) → q1 * 256 + r0 ≡ w → q2 * 256 + r1 ≡ q1 → q3 * 256 + r2 ≡ q2
-    → r0 + 256 * r1 + 65536 * r2 + 16777216 * q3 ≡ w
-sum_digits w q1 q2 q3 r0 r1 r2 e0 e1 e2 = omega arith
-
-last_digit : (w q1 q2 q3 r0 r1 r2 : ℕ) → q1 * 256 + r0 ≡ w → q2 * 256 + r1 ≡ q1 → q3 * 256 + r2 ≡ q2 → w < 2 ^ 32
-    → q3 < 256
-last_digit w q1 q2 q3 r0 r1 r2 e0 e1 e2 h = omega arith
-
 digits : (w : ℕ) → w < 2 ^ 32
     → w % 256 + 256 * (w / 256 % 256) + 65536 * (w / 65536 % 256) + 16777216 * (w / 16777216 % 256) ≡ w
-digits w h =
-    let q1 = w / 256 in
-    let q2 = w / 256 / 256 in
-    let q3 = w / 256 / 256 / 256 in
-    let second : w / 65536 ≡ q2 = div_again w 256 256 in
-    let third : w / 16777216 ≡ q3 = div_again w 256 65536 ∙ div_again q1 256 256 in
-    let top : q3 % 256 ≡ q3 =
-    mod-eq_of_lt (last_digit w q1 q2 q3 _ _ _ (div-add-mod' w 256) (div-add-mod' q1 256) (div-add-mod' q2 256) h) in
-    rw (second, third, top)
-    (sum_digits w q1 q2 q3 _ _ _ (div-add-mod' w 256) (div-add-mod' q1 256) (div-add-mod' q2 256))
+digits w h = omega (arith, from_le_bytes-to_le_bytes_4 w h)
 
 word_front : (w : ℕ) (r : List ℕ) → w < 2 ^ 32 → word_at (bytes_of w ++ r) 0 ≡ w
 unfolding word_at bytes_of
@@ -74,42 +54,22 @@ unfolding word_at
 word_small bs p b h =
     omega (arith, b p (omega arith), b (p + 1) (omega arith), b (p + 2) (omega arith), b (p + 3) (omega arith))
 
-module _ (a b c d : ℕ) (ha : a < 256) (hb : b < 256) (hc : c < 256) (hd : d < 256) where
-  pub four_digits : bytes_of (a + 256 * b + 65536 * c + 16777216 * d) ≡ a ∷ b ∷ c ∷ d ∷ []
-  unfolding bytes_of
-  four_digits =
-      let w = a + 256 * b + 65536 * c + 16777216 * d in
-      let quotient : w / 256 ≡ b + 256 * c + 65536 * d = omega arith in
-      let quotient2 : w / 65536 ≡ c + 256 * d = omega arith in
-      let quotient3 : w / 16777216 ≡ d = omega arith in
-      let first : w % 256 ≡ a = omega arith in
-      let second : (b + 256 * c + 65536 * d) % 256 ≡ b = omega arith in
-      let third : (c + 256 * d) % 256 ≡ c = omega arith in
-      let fourth : d % 256 ≡ d = omega arith in
-      rw (first, quotient, second, quotient2, third, quotient3, fourth)
+front_at : (bs : List ℕ) (p i : ℕ) → i < 4 → get_or (take 4 (drop p bs)) i 0 ≡ get_or bs (p + i) 0
+front_at bs p i h = get_or-take 4 (drop p bs) i 0 h ∙ get_or-drop p bs i 0
 
-front_four : (bs : List ℕ) (p : ℕ) → p + 4 ≤ length bs
-    → take 4 (drop p bs) ≡ get_or bs p 0 ∷ get_or bs (p + 1) 0 ∷ get_or bs (p + 2) 0 ∷ get_or bs (p + 3) 0 ∷ []
-front_four bs p h =
-    let one : p + 1 ≡ suc p = add-one p in
-    let two : p + 2 ≡ suc (suc p) = omega arith in
-    let three : p + 3 ≡ suc (suc (suc p)) = omega arith in
-    rw (
-      drop-cons bs p 0 (omega arith),
-      drop-cons bs (suc p) 0 (omega arith),
-      drop-cons bs (suc (suc p)) 0 (omega arith),
-      drop-cons bs (suc (suc (suc p))) 0 (omega arith),
-      one,
-      two,
-      three,
-    )
+front_byte : (bs : List ℕ) (p : ℕ) → Bytes bs → p + 4 ≤ length bs → (i : ℕ) → get_or (take 4 (drop p bs)) i 0 < 256
+front_byte bs p b h i =
+    elim (cases_lt i 4) [
+      | inl l ↦ rw (front_at bs p i l) (b (p + i) (omega arith))
+      | inr g ↦ rw (get_or_past (take 4 (drop p bs)) i 0 (simp length-take (omega arith))) (omega arith)
+    ]
 
 pub bytes_again : (bs : List ℕ) (p : ℕ) → Bytes bs → p + 4 ≤ length bs → bytes_of (word_at bs p) ≡ take 4 (drop p bs)
-unfolding word_at
+unfolding word_at bytes_of
 bytes_again bs p b h =
-    four_digits _ _ _ _ (b p (omega arith)) (b (p + 1) (omega arith)) (b (p + 2) (omega arith))
-    (b (p + 3) (omega arith))
-    ∙ sym (front_four bs p h)
+    let at = front_at bs p in
+    le_bytes_4 (take 4 (drop p bs)) (word_at bs p) (simp (length-take, length-drop) (omega arith)) (front_byte bs p b h)
+    (omega (arith, rw add-zero at (at 0 (omega arith)), at 1 (omega arith), at 2 (omega arith), at 3 (omega arith)))
 
 -- n words from p on
 pub packed_again : (bs : List ℕ) (p n : ℕ) (f : ℕ → ℕ) → Bytes bs → p + n * 4 ≤ length bs

@@ -1,14 +1,22 @@
 -- Words that are read: one of n, and what a test of all of them sees. Assumes nothing.
 use mathlib.Core.Path.{◌≡◌, refl, sym, ap, ◌∙◌}
-use mathlib.Core.Bool.{Bool, true, false}
+use mathlib.Core.Bool.{Bool, true, false, not, ◌&&◌}
 use mathlib.Core.List.{List}
-use Prim.Native.Nat.{ℕ, ◌+◌, ◌*◌, ◌<◌}
-use lib.ListN.{length, get_or}
-use lib.Ieee.{nan}
-use lib.Ieee.Scale.{finite}
-use Rattle.floats.specs.Sums.{at, all_to}
-use Rattle.floats.proofs.Loops.{tab_length, all_stop, table_get}
+use Prim.Native.Nat.{ℕ, zero, suc, ◌+◌, ◌*◌, ◌≤◌, ◌<◌}
+use native.Mathlib.Numerals.{add-one}
+use native.Mathlib.Omega.{arith}
+use lib.ListN.{length, get_or, take}
+use lib.Seq.{take_all}
+use lib.Dec.{T}
+use lib.Ieee.{Float, nan, is_nan}
+use Rattle.std.specs.List.{list_all, range_with_len}
+use Rattle.std.proofs.lemmas.List.Folds.{list_all_more}
+use Rattle.std.proofs.lemmas.List.FromFn.{length-range_with_len, get_or-range_with_len}
+use Rattle.floats.specs.Sums.{at, all_to, all_finite}
+use Rattle.floats.proofs.Loops.{tab_none, tab_more, tab_whole, tab_length, all_stop, table_get}
 use Rattle.words.specs.Words.{word_at, float_at, words_from, floats_in}
+use Rattle.words.proofs.Patterns.{finite_number}
+use Rattle.words.proofs.Packs.{pack_steps}
 
 -- a test that passes at all of 0, 1, .., n - 1 passes at each
 pub all_at : (p : ℕ → Bool) (n i : ℕ) → all_to p n ≡ true → i < n → p i ≡ true
@@ -34,5 +42,30 @@ pub float_at_lem : (bs : List ℕ) (n i : ℕ) → i < n → at (floats_in bs n)
 unfolding floats_in
 float_at_lem bs n i h = table_get _ n i nan h
 
-pub finite_at : (bs : List ℕ) (n i : ℕ) → i < n → finite (float_at bs (i * 4)) ≡ finite (at (floats_in bs n) i)
-finite_at bs n i h = ap finite (sym (float_at_lem bs n i h))
+-- a finite number of a list of them is no NaN
+pub finite_each : (xs : List Float) (i : ℕ) → all_finite xs ≡ true → i < length xs → T (not (is_nan (get_or xs i nan)))
+unfolding all_finite
+finite_each xs i e h = finite_number _ (all_at _ _ i e h)
+
+-- a test of all numbers of a range
+all_front : (p : ℕ → Bool) (n i : ℕ) → i ≤ n → list_all p (take i (range_with_len 0 n)) ≡ all_to p i
+unfolding all_to
+all_front p n zero h = refl
+all_front p n (suc i) h =
+    let inside : i < length (range_with_len 0 n) = rw length-range_with_len (omega arith) in
+    let more : list_all p (take (i + 1) (range_with_len 0 n)) ≡ (list_all p (take i (range_with_len 0 n)) && p (get_or (range_with_len 0 n) i 0)) =
+    list_all_more p (range_with_len 0 n) i 0 inside in
+    let here : get_or (range_with_len 0 n) i 0 ≡ i = get_or-range_with_len 0 n i 0 (omega arith) ∙ omega arith in
+    let before = all_front p n i (omega arith) in
+    rw (← add-one i, more, here, before)
+
+pub all_range : (p : ℕ → Bool) (n : ℕ) → list_all p (range_with_len 0 n) ≡ all_to p n
+all_range p n =
+    let whole : take n (range_with_len 0 n) ≡ range_with_len 0 n = take_all n _ (rw length-range_with_len (omega arith)) in
+    ap (list_all p) (sym whole) ∙ all_front p n n (omega arith)
+
+-- a loop that reads words: none yet, one more, and all
+pub ruleset table_steps = (tab_none, tab_more, tab_whole)
+
+-- a loop that writes finite numbers as words
+pub ruleset float_steps = (finite_each, pack_steps)

@@ -46,12 +46,12 @@ inside : (c : tie.In-loop-o invariant-loop decreases-loop)
     + ((entry (head c)).args.mesh.grid.intervals + 5) ≤ length (head c).loop-o.map
 inside c =
     let h = head c in
-    let lies = room h.loop-o.o (entry h).args.n (entry h).args.row _ c.loop-o-test.true (entry h).requires.3 in
-    omega (arith, lies, size h, (entry h).requires.2)
+    let lies = room h.loop-o.o (entry h).args.n (entry h).args.row _ c.loop-o-test.true (entry h).requires.2 in
+    omega (arith, lies, size h, (entry h).requires.1)
 
 -- ---- the needs
 both_at_requires : tie.Need-both_at-eight-requires invariant-loop decreases-loop
-both_at_requires c κs = (c.requires.0, c.requires.1)
+both_at_requires c κs = c.requires.0
 
 loop_holds : tie.Need-loop-o-init invariant-loop decreases-loop
 loop_holds c = (omega arith, marked_first _ _)
@@ -88,7 +88,7 @@ loop_again c =
     let t = m.before.before.before in
     let h = head t in (
       omega arith,
-      one_output (entry h).args.from (entry h).args.row (tests h) (rw edge_length (entry h).requires.2) h.loop-o.o _
+      one_output (entry h).args.from (entry h).args.row (tests h) (rw edge_length (entry h).requires.1) h.loop-o.o _
           h.loop-o.map _ h.loop-o.invariant.1 (omega (arith, inside t)) (m.mark_edge.ensures ∙ rw rest),
     )
 

@@ -1,0 +1,6 @@
+-- The byte stands behind the digits.
+use Rattle.text.proofs.Appends.{exact, both_within}
+use Rattle.text.proofs.append_number.Goals as goal
+
+pub returns : goal.returns
+returns c = both_within c.append_decimal-next.ensures (exact c.append.ensures)

@@ -79,11 +79,11 @@
  * Stack: any call, on any configuration and any numbers, takes at most
  * ESTIMATOR_STACK_BYTES, arguments and return addresses included. No function
  * calls itself. In bytes, summed along the calls inside the archive:
- *   kan_train          2,816
- *   kan_train_step     2,800
- *   kan_accumulate     2,672
- *   kan_loss           2,160
- *   kan_predict        2,176
+ *   kan_train          2,832
+ *   kan_train_step     2,816
+ *   kan_accumulate     2,688
+ *   kan_predict        2,080
+ *   kan_loss           2,016
  *   kan_visits         2,000
  *   kan_npy_read         496
  *   kan_initialise       432
@@ -93,8 +93,8 @@
  *   kan_image_read       368
  *   kan_apply            368
  *   kan_check            304
- * So on a fibre of 4 KiB training leaves its caller 1,280 bytes, prediction
- * 1,920. The first call needs no more than later ones: memset and memcpy, all
+ * So on a fibre of 4 KiB training leaves its caller 1,264 bytes, prediction
+ * 2,016. The first call needs no more than later ones: memset and memcpy, all
  * that the archive needs of the C library, are bound when the program is
  * loaded. The functions of estimator.hpp added up to 208 bytes of their own with
  * g++ 12 and clang 14 at -O2, and up to 480 without optimisation.

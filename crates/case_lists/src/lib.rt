@@ -7,11 +7,12 @@ mod tallies;
 
 ghost use Rattle.std.specs.Prelude.{◌≤◌, length};
 
+pub use read::line_at;
 use replay::Line;
 use std::fs::File;
 use std::io;
 use std::rt::Files;
-use tallies::Tallies;
+pub use tallies::Tallies;
 
 // More than any list has.
 const MOST_BYTES: usize = 1_048_576;
@@ -45,7 +46,7 @@ fn run_list<F: Fn(u8, &[u64]) -> bool>(
     let mut number = 0;
     let mut at = 0;
     while at < MOST_BYTES {
-        let Some(length) = read::line_at(file, at, &mut chunk)? else {
+        let Some(length) = line_at(file, at, &mut chunk)? else {
             return tallies.print(rt, name);
         };
         number += 1;

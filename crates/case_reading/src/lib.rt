@@ -8,8 +8,8 @@ use replay::{float_of, same_bits};
 use spline::Grid;
 
 // What is left of a case's words. Each method takes words off the front, and answers None where they are missing or other than
-// they must be: the case then does not agree.
-#[derive(Debug, Drop)]
+// they must be: the case then does not agree. A copy keeps its place.
+#[derive(Clone, Copy, Debug)]
 pub struct Case<'a> {
     rest: &'a [u64],
 }

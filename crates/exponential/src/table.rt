@@ -40,7 +40,7 @@ const SCALED: [u32; 256] = [
 ];
 
 // The table itself. Every one holds the right powers.
-#[derive(Drop)]
+#[derive(Clone, Copy)]
 pub struct PowerTable {
     scaled: [u32; 256],
     ghost powers: { Powers scaled },

@@ -1,3 +1,4 @@
+pub mod Halves
 pub mod Squares
 pub mod Once
 pub mod Range

@@ -26,10 +26,19 @@ pub struct Uniform {
     pub next: SplitMix64,
 }
 
+// Products of 32-bit halves fit a u64. That of the two high halves is a multiple of 2^64, and of the cross products' sum only the low
+// half stays below 2^64 once it is moved up. It is built here and not std's `wrapping_mul`: a form of this repository's
+// (docs/DECISIONS.md, "Forms").
+#[tactic(auto, using(crate::proofs::Halves::halves_fit, crate::proofs::Halves::product))]
 pub fn wrapping_mul(a: u64, b: u64) -> u64
     ensures { result ≡ (a * b) % 2 ^ 64 }
 {
-    a.wrapping_mul(b)
+    let a_high = a >> 32;
+    let a_low = a % 4_294_967_296;
+    let b_high = b >> 32;
+    let b_low = b % 4_294_967_296;
+    let cross = (a_high * b_low).wrapping_add(a_low * b_high) % 4_294_967_296;
+    (a_low * b_low).wrapping_add(cross * 4_294_967_296)
 }
 
 impl SplitMix64 {

@@ -2,16 +2,14 @@
 use Rattle.std.specs.Prelude.{Ok, Err}
 use mathlib.Core.Path.{◌≡◌, refl, sym, ap, ◌∙◌}
 use mathlib.Core.Bool.{Bool, true, false, cond, ◌||◌}
-use mathlib.Core.List.{List, [], ◌∷◌, ◌++◌}
-use Prim.Native.Nat.{ℕ, zero, suc, ◌+◌, ◌<◌}
+use mathlib.Core.List.{List, ◌++◌}
+use Prim.Native.Nat.{ℕ, ◌+◌, ◌<◌}
 use native.Mathlib.Nat.{le_of_eq}
 use native.Mathlib.Numerals.{add-one}
-use lib.ListN.{length, get_or, replicate}
+use lib.ListN.{length, drop, get_or}
 use lib.Seq.{ext_get_or}
 use lib.Ieee.{Float}
-use Rattle.std.proofs.lemmas.Grind.{replicate_next}
-use Rattle.floats.specs.Sums.{tabulate}
-use Rattle.floats.proofs.Loops.{tab_length, table_get}
+use Rattle.floats.proofs.Loops.{tab_length, tab_whole, table_get}
 use Rattle.spline.specs.declared.Grid.{Grid}
 use Rattle.layers.specs.Net.{Net, net_of}
 use Rattle.layers.specs.Widths.{input_width, parameters_in}
@@ -39,13 +37,9 @@ either true false = refl
 either false true = refl
 either false false = refl
 
--- a map that was filled with 0 is blank
-filled : (n : ℕ) → replicate n 0 ≡ blank n
-unfolding tabulate
-filled zero = refl
-filled (suc n) =
-    ap (λ (k : ℕ). replicate {A = ℕ} k 0) (sym (add-one n)) ∙ replicate_next {X = ℕ} n 0
-    ∙ ap (λ (l : List ℕ). l ++ 0 ∷ []) (filled n)
+-- all k bytes of a map of n were cleared
+cleared : (n k : ℕ) (d ms : List ℕ) → k ≡ length d → length d ≡ n → ms ≡ blank k ++ drop k d → ms ≡ blank n
+cleared n k d ms l e p = tab_whole _ k d ms p l ∙ ap blank e
 
 module _ (N : Net) (ps : List Float) (ws : List ℕ) (xs : List Float) (n : ℕ) where
   pub marks_length : (r : ℕ) (ms : List ℕ) → ms ≡ marks_of N ps ws xs r n → length ms ≡ n
@@ -81,14 +75,19 @@ pub record Visiting (N : Net) (ps : List Float) (ws : List ℕ) (xs : List Float
   pub bytes : ms ≡ marks_of N ps ws xs r n
   pub kept : Kept ws a₀ b₀ a b
 
--- the map was filled with 0
+-- the map was cleared
 pub before_first : {N : Net} {ps : List Float} {ws : List ℕ} {xs : List Float} {n : ℕ} {a b : List Float}
-    (d ms : List ℕ) → length d ≡ n → ms ≡ replicate (length d) 0 → Visiting N ps ws xs n a b 0 a b ms
+    (d ms : List ℕ) → length d ≡ n → ms ≡ blank (length d) ++ drop (length d) d → Visiting N ps ws xs n a b 0 a b ms
 before_first {N} {ps} {ws} {xs} {n} {a} {b} d ms e p = record {
   sound = first_none _;
-  bytes = p ∙ ap (λ (k : ℕ). replicate k 0) e ∙ filled n ∙ marks_none N ps ws xs n;
+  bytes = cleared n (length d) d ms refl e p ∙ marks_none N ps ws xs n;
   kept = kept_all ws a b;
 }
+
+-- a map of P bytes is as long as the one that was lent
+pub as_long : (ws : List ℕ) (g : Grid) (ps : List Float) (first second map : ℕ) {n : ℕ}
+    → map_up_to11 ws g ps first second map ≡ 0 → n ≡ parameters_in (g.intervals + 5) ws → n ≡ map
+as_long ws g ps first second map c e = e ∙ sym (past11 ws g ps first second map c).bytes
 
 -- ---- row r of a call that is past check 11
 pub record RowTurn (g : Grid) (ps : List Float) (ws : List ℕ) (xs a₀ b₀ : List Float) (ms₀ : List ℕ) (r : ℕ)
@@ -154,13 +153,13 @@ module _ {g : Grid} {ps : List Float} {ws : List ℕ} {xs a₀ b₀ : List Float
     kept = t.ran_row.kept;
   }
 
-  -- it was refused, and the map filled with 0
-  pub stopped_at : {e : Refusal} {ms' : List ℕ} → k ≡ Err e → ms' ≡ replicate (length ms) 0
+  -- it was refused, and the map cleared
+  pub stopped_at : {e : Refusal} {n : ℕ} {ms' : List ℕ} → k ≡ Err e → n ≡ length ms → ms' ≡ blank n ++ drop n ms
       → Unswept (net_of g) ws g ps xs a₀ b₀ ms₀ (Err (record { number = e.number; carried = r })) a b ms'
-  stopped_at {e} {ms'} h p =
+  stopped_at {e} {n} {ms'} h l p =
       let y = t.ran_row in
       row_refused (net_of g) ws g ps xs a₀ b₀ ms₀ t.checks y.kept.first y.kept.second r e t.more t.sound
-      (sym h ∙ y.refusal) (p ∙ ap (λ (n : ℕ). replicate n 0) t.size ∙ filled _)
+      (sym h ∙ y.refusal) (cleared _ n ms ms' l t.size p)
 
 -- ---- the end
 pub visited_all : {g : Grid} {ps : List Float} {ws : List ℕ} {xs a₀ b₀ : List Float} {ms₀ : List ℕ} {r : ℕ}

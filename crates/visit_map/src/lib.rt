@@ -30,13 +30,14 @@ fn mark_rows(
         map.new }
 {
     let w = widths[0];
+    let bytes = map.len();
     let table = PowerTable::new();
-    map.fill(0);
+    touched_layer::unmark(map, bytes);
     for r in 0..batches::rows_in(inputs.len(), w) {
         let row = batches::row(inputs, w, r);
         let marked = touched_row::mark_row(grid, &table, widths, model, row, first, second, map);
         if let Err(refusal) = marked {
-            map.fill(0);
+            touched_layer::unmark(map, bytes);
             return Err(Refusal {
                 carried: r,
                 ..refusal

@@ -1,16 +1,15 @@
 -- A batch row by row: what holds after some of its rows, and after one more. Assumes nothing.
-use Rattle.std.specs.Prelude.{Ok, Err}
+use Rattle.std.specs.Prelude.{Ok}
 use mathlib.Core.Path.{◌≡◌, refl, sym, ap, ◌∙◌}
-use mathlib.Core.Bool.{Bool, true, false, false≢true, cond}
+use mathlib.Core.Bool.{Bool, true, false, false≢true, cond, ◌||◌}
 use mathlib.Core.List.{List}
-use Prim.Native.Nat.{ℕ, zero, suc, ◌+◌, ◌-◌, ◌*◌, ◌≤◌, ◌<◌}
+use Prim.Native.Nat.{ℕ, ◌+◌, ◌-◌, ◌*◌, ◌≤◌, ◌<◌}
 use native.Mathlib.Nat.{le_of_lt}
 use native.Mathlib.Omega.{arith}
 use lib.ListN.{length, drop}
 use lib.Ieee.{Float}
 use Rattle.floats.specs.Sums.{all_to}
 use Rattle.floats.proofs.Loops.{all_none, all_more, all_stop, all_each}
-use Rattle.refusals.specs.declared.Refusal.{Refusal}
 use Rattle.refusals.specs.Refusals.{Outcome}
 use Rattle.refusals.proofs.Firsts.{test_passes, not_refused}
 use Rattle.spline.specs.declared.Grid.{Grid}
@@ -19,13 +18,12 @@ use Rattle.layers.specs.Widths.{input_width, output_width}
 use Rattle.layer_cursor.specs.Cursor.{Walkable}
 use Rattle.batches.specs.Batch.{rows_in, row_at}
 use Rattle.batches.proofs.Rows.{row_begins}
-use Rattle.passes.specs.Pass.{rows_of, finite_row}
+use Rattle.passes.specs.Pass.{rows_of, finite_row, nodes_finite}
 use Rattle.fast_gradients.specs.Adding.{Clean}
 use Rattle.gradients.specs.Steps.{plus_of}
 use Rattle.row_gradients.specs.Backward.{row_gradient}
 use Rattle.row_gradients.specs.Calls.{two_n, WorkFits, RowTaken}
 use Rattle.row_gradients.proofs.Spans.{refit}
-use Rattle.row_gradients.proofs.Tests.{test_fails, never_ok}
 use Rattle.row_gradients.proofs.Rows.{row_length, row_clean}
 use Rattle.batch_gradients.specs.Accumulate.{gathered}
 use Rattle.batch_gradients.specs.Calls.{FullRows, RowsTaken}
@@ -48,6 +46,16 @@ pub same_row : {N : Net} {ps : List Float} {ws : List ℕ} {xs xs' ts ts' : List
     → RowTaken N ps ws xs' ts' scale add gs W gs' W' b
 same_row e f y = rw (← e, ← f) y
 
+-- all rows pass only where this one does: the search takes it where a row is refused
+pub one_of_all : (N : Net) (ps : List Float) (ws : List ℕ) (xs : List Float) (r : ℕ) → r < rows_of ws xs
+    → nodes_finite N ps ws (row_at xs (input_width ws) r)
+    ≡ (nodes_finite N ps ws (row_at xs (input_width ws) r) || all_to (finite_row N ps ws xs) (rows_of ws xs))
+one_of_all N ps ws xs r h = by (finite_row N ps ws xs r) refl
+  where
+    by : (b : Bool) → finite_row N ps ws xs r ≡ b → b ≡ (b || all_to (finite_row N ps ws xs) (rows_of ws xs))
+    by true e = refl
+    by false e = sym (all_stop _ r _ h e)
+
 -- ---- after r rows, from the gradients gs₀, which may have been `known` to be free of -0.0, and the work W₀: all of them
 -- have passed, and are added where `add` says so
 pub record Taken (N : Net) (ps : List Float) (ws : List ℕ) (xs ts : List Float) (scale : Float) (add known : Bool)
@@ -55,6 +63,7 @@ pub record Taken (N : Net) (ps : List Float) (ws : List ℕ) (xs ts : List Float
   pub passed : all_to (finite_row N ps ws xs) r ≡ true
   pub sum : add ≡ true → gs ≡ gathered N ps ws xs ts (output_width ws) scale gs₀ r
   pub same : add ≡ false → gs ≡ gs₀
+  pub kept : finite_row N ps ws xs 0 ≡ false → gs ≡ gs₀
   pub clean : known ≡ true → Clean (length gs₀) gs
   pub size_g : length gs ≡ length gs₀
   pub size_w : length W ≡ length W₀
@@ -67,21 +76,12 @@ module _ {N : Net} {ps : List Float} {ws : List ℕ} {xs ts : List Float} {scale
     passed = all_none _;
     sum = λ _. gathered_none _ _ _ _ _ _ _ _;
     same = λ _. refl;
+    kept = λ _. refl;
     clean = c;
     size_g = refl;
     size_w = refl;
     rest = refl;
   }
-
-  -- where the first row fails, none was added before it
-  kept_first : (r : ℕ) {gs W : List Float} → Taken N ps ws xs ts scale add known gs₀ W₀ r gs W
-      → finite_row N ps ws xs 0 ≡ false → gs ≡ gs₀
-  kept_first zero {gs} t e = by add refl
-    where
-      by : (c : Bool) → add ≡ c → gs ≡ gs₀
-      by true z = t.sum z ∙ sym (gathered_none _ _ _ _ _ _ _ _)
-      by false z = t.same z
-  kept_first (suc r) t e = absurd (false≢true (sym e ∙ all_each _ (suc r) t.passed 0 (omega arith)))
 
   pub all_taken : {r : ℕ} {gs W : List Float} → r ≡ rows_of ws xs → Taken N ps ws xs ts scale add known gs₀ W₀ r gs W
       → RowsTaken N ps ws xs ts scale add gs₀ W₀ gs W (Ok tt)
@@ -91,7 +91,7 @@ module _ {N : Net} {ps : List Float} {ws : List ℕ} {xs ts : List Float} {scale
         answer = rw all;
         added = λ _ a. t.sum a ∙ ap (gathered N ps ws xs ts (output_width ws) scale gs₀) e;
         untold = t.same;
-        kept = kept_first r t;
+        kept = t.kept;
         rest = t.rest;
       }
 
@@ -135,15 +135,19 @@ module _ {g : Grid} {ps : List Float} {ws : List ℕ} {xs ts : List Float} {scal
 
     pub one_row : b ≡ Ok tt → Taken (net_of g) ps ws xs ts scale add known gs₀ W₀ (r + 1) gs' W'
     one_row e = record {
-      passed = all_more _ r t.taken.passed (passes_20 e);
+      passed = all;
       sum = λ a. gathered_more _ _ _ _ _ _ _ _ r _ _ (t.taken.sum a) long (moved true a);
       same = λ a. moved false a ∙ t.taken.same a;
+      kept = λ z. absurd (false≢true (sym z ∙ all_each _ (r + 1) all 0 (omega arith)));
       clean = λ k. cleanly k add refl;
       size_g = size_g ∙ t.taken.size_g;
       size_w = size_w ∙ t.taken.size_w;
       rest = y.rest ∙ t.taken.rest;
     }
       where
+        all : all_to (finite_row (net_of g) ps ws xs) (r + 1) ≡ true
+        all = all_more _ r t.taken.passed (passes_20 e)
+
         long : length adds ≡ length gs₀
         long = row_length (net_of g) ps ws _ _ scale (t.full.inputs r t.more) ∙ t.fits.params ∙ sym t.same
 
@@ -153,15 +157,3 @@ module _ {g : Grid} {ps : List Float} {ws : List ℕ} {xs ts : List Float} {scal
         cleanly : known ≡ true → (c : Bool) → add ≡ c → Clean (length gs₀) gs'
         cleanly k true z = row_clean _ _ _ _ _ _ _ _ _ (moved true z) (t.taken.clean k)
         cleanly k false z = rw (moved false z) (t.taken.clean k)
-
-    pub stopped : {e : Refusal} → b ≡ Err e → RowsTaken (net_of g) ps ws xs ts scale add gs₀ W₀ gs' W' (Err e)
-    stopped {e} p =
-        let wrong = test_fails _ 20 0 e (sym y.answer ∙ p) in
-        let unmoved : gs' ≡ gs = rw wrong at y.gradients in
-        record {
-          answer = rw (all_stop (finite_row (net_of g) ps ws xs) r (rows_of ws xs) t.more wrong) (rw wrong at (sym p ∙ y.answer));
-          added = λ q. never_ok q;
-          untold = λ a. unmoved ∙ t.taken.same a;
-          kept = λ z. unmoved ∙ kept_first r t.taken z;
-          rest = y.rest ∙ t.taken.rest;
-        }

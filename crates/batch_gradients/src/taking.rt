@@ -14,6 +14,7 @@ use spline::Grid;
 // Takes the rows through the layers, up to one that meets 20; where `add` says so, the gradients of each are added
 // before the next is taken: then those of the rows before a refused one stay. A training step clears the slice anyway;
 // who must leave it lets the rows be tested first. `clean` says that no gradient is -0.0.
+#[tactic(auto, using(crate::proofs::Turns::one_of_all))]
 pub fn take_rows(
     grid: Grid,
     table: &PowerTable,

@@ -15,7 +15,7 @@ use borrow.Author.Tests.{eqb-true, eqb-false, eq-eqb, ne_eqb}
 use Rattle.npy_tokens.specs.declared.Class.TheVariants.{Space}
 use Rattle.npy_tokens.specs.declared.Number.{Number}
 use Rattle.npy_tokens.specs.Tokens.{behind, after_byte, after_token, begins_with, number_in, after_number, same}
-use Rattle.npy_tokens.specs.Places.{Place, Ended, NumberRead}
+use Rattle.npy_tokens.specs.Places.{counted, Place, Ended, NumberRead}
 use Rattle.npy_tokens.proofs.Spans.{rest_cons, rest_none}
 use Rattle.npy_tokens.proofs.Texts.{begins_inside, past_begun}
 use Rattle.npy_header.specs.Reading.{numbers_in, after_numbers, sizes_in, after_sizes}
@@ -56,6 +56,19 @@ module _ (shape : List ℕ) (count value : ℕ) where
     few = tt;
     one = λ n ns v. sym (ap (λ (t : List ℕ). same (n ∷ ns) t) (rest_none shape count h));
   }
+
+-- the same, by what is left to compare: the search takes these wherever a number is matched, in any form
+pub first_asked : (shape : List ℕ) (count n : ℕ) (ns : List ℕ) → Small shape → count < length shape
+    → get_or shape count 0 ≡ counted n → same (n ∷ ns) (drop count shape) ≡ same ns (drop (count + 1) shape)
+first_asked shape count n ns s h e = sym ((one_found shape count (counted n) s h e).one n ns refl)
+
+pub first_other : (shape : List ℕ) (count n : ℕ) (ns : List ℕ) → Small shape → count < length shape
+    → (get_or shape count 0 ≡ counted n → ⊥) → same (n ∷ ns) (drop count shape) ≡ false
+first_other shape count n ns s h d = sym ((one_other shape count (counted n) s h d).one n ns refl)
+
+pub first_too_many : (shape : List ℕ) (count n : ℕ) (ns : List ℕ) → length shape ≤ count
+    → same (n ∷ ns) (drop count shape) ≡ false
+first_too_many shape count n ns h = sym ((one_too_many shape count (counted n) h).one n ns refl)
 
 -- ---- at the end of the numbers all sizes asked for were found, or not
 none_more : (shape : List ℕ) (count : ℕ) → count ≤ length shape → same [] (drop count shape) ≡ eqb count (length shape)

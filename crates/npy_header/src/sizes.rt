@@ -13,6 +13,7 @@ pub struct Sizes {
 }
 
 // How many of the sizes asked for were found, with one number more; none once a number is another.
+#[tactic(auto, using(crate::proofs::Walks::first_asked, crate::proofs::Walks::first_other, crate::proofs::Walks::first_too_many))]
 fn match_one(shape: &[usize], matched: Option<usize>, value: usize) -> Option<usize>
     requires { Small shape.now × Few shape.now matched }
     ensures { MatchedOne shape.now matched value result }

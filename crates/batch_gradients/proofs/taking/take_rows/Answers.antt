@@ -1,8 +1,7 @@
 -- What a row asks, and what it leaves.
 use Rattle.std.proofs.Common.{◌≡◌, ap, length, sym, ◌∙◌, arith}
-use Rattle.std.proofs.lemmas.Result.{err_from_is_err_and}
 use Rattle.batch_gradients.proofs.Turns.{first_some, last_some, row_starts, same_row, none_taken, all_taken}
-use Rattle.batch_gradients.proofs.Turns.{taking, still_fits, still_same, still_clean, one_row, stopped}
+use Rattle.batch_gradients.proofs.Turns.{taking, still_fits, still_same, still_clean, one_row}
 use Rattle.batch_gradients.proofs.taking.take_rows.Goals as goal
 
 pub rows_in-count-requires : goal.rows_in-count-requires
@@ -30,18 +29,11 @@ take_row-requires c =
       still_clean t,
     )
 
-pub returns-in_err-take_row : goal.returns-in_err-take_row
-returns-in_err-take_row c =
-    let t = taking c.requires.0 c.requires.1 c.requires.2 c.rows_in-count.ensures c.loop-r-test.true c.loop-r.invariant in
-    let p = err_from_is_err_and c.from_residual.result c.from_residual.ensures.1 in
-    let y = same_row c.row-input.ensures c.row-target.ensures c.take_row.ensures in
-    rw (p.1, p.2) (stopped t c.take_row.auto.gradients c.take_row.auto.work y c.in_err-take_row.was)
-
 pub loop-r-preserved : goal.loop-r-preserved
 loop-r-preserved c =
     let t = taking c.requires.0 c.requires.1 c.requires.2 c.rows_in-count.ensures c.loop-r-test.true c.loop-r.invariant in
     let y = same_row c.row-input.ensures c.row-target.ensures c.take_row.ensures in
-    one_row t c.take_row.auto.gradients c.take_row.auto.work y c.in_ok-take_row.was
+    one_row t c.take_row.auto.gradients c.take_row.auto.work y (grind arith)
 
 pub returns : goal.returns
 returns c =

@@ -2,7 +2,8 @@
 
 It starts from
   contracts   the `requires` and `ensures` of every `pub fn` in a crate that docs/CALLS.md calls public, of `estimator`
-              those of the C functions, which `estimator_c` exports with the very same clauses;
+              those of the C functions, which `estimator_c` exports with the very same clauses; and what an `impl` of a
+              trait there promises in a `ghost` item, as `from_gives` of a `From`;
   theorems    the types of those in the table `| theorem | in |` of docs/READING.md, with the parameters of the modules
               around them.
 A name is found through the `use` lines of its file, or in the file itself, and all that its definition cites is
@@ -182,6 +183,9 @@ def functions(crate):
                 "file": path,
                 "text": clauses_after(text, at),
             }
+        for m in re.finditer(r"^    ghost (\w+) = \{(.*)\};$", text, re.M):
+            promise = {"name": f"{crate}::{m.group(1)}", "fn": m.group(1), "public": True, "c": False, "file": path}
+            yield {**promise, "text": m.group(2)}
 
 
 # ---- where a module lies

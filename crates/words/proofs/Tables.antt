@@ -47,22 +47,28 @@ pub finite_each : (xs : List Float) (i : ℕ) → all_finite xs ≡ true → i <
 unfolding all_finite
 finite_each xs i e h = finite_number _ (all_at _ _ i e h)
 
--- a test of all numbers of a range
-all_front : (p : ℕ → Bool) (n i : ℕ) → i ≤ n → list_all p (take i (range_with_len 0 n)) ≡ all_to p i
-unfolding all_to
-all_front p n zero h = refl
-all_front p n (suc i) h =
-    let inside : i < length (range_with_len 0 n) = rw length-range_with_len (omega arith) in
-    let more : list_all p (take (i + 1) (range_with_len 0 n)) ≡ (list_all p (take i (range_with_len 0 n)) && p (get_or (range_with_len 0 n) i 0)) =
-    list_all_more p (range_with_len 0 n) i 0 inside in
-    let here : get_or (range_with_len 0 n) i 0 ≡ i = get_or-range_with_len 0 n i 0 (omega arith) ∙ omega arith in
-    let before = all_front p n i (omega arith) in
-    rw (← add-one i, more, here, before)
+-- a test of all numbers of a range: q says of k what p says of the k-th
+module _ (p q : ℕ → Bool) (from : ℕ) (same : (k : ℕ) → p (from + k) ≡ q k) where
+  all_front : (n i : ℕ) → i ≤ n → list_all p (take i (range_with_len from n)) ≡ all_to q i
+  unfolding all_to
+  all_front n zero h = refl
+  all_front n (suc i) h =
+      let range = range_with_len from n in
+      let inside : i < length range = rw length-range_with_len (omega arith) in
+      let more : list_all p (take (i + 1) range) ≡ (list_all p (take i range) && p (get_or range i 0)) = list_all_more p range i 0 inside in
+      let here : get_or range i 0 ≡ from + i = get_or-range_with_len from n i 0 (omega arith) in
+      rw (← add-one i, more, here, same i, all_front n i (omega arith))
+
+  all_whole : (n : ℕ) → list_all p (range_with_len from n) ≡ all_to q n
+  all_whole n =
+      let whole : take n (range_with_len from n) ≡ range_with_len from n = take_all n _ (rw length-range_with_len (omega arith)) in
+      ap (list_all p) (sym whole) ∙ all_front n n (omega arith)
 
 pub all_range : (p : ℕ → Bool) (n : ℕ) → list_all p (range_with_len 0 n) ≡ all_to p n
-all_range p n =
-    let whole : take n (range_with_len 0 n) ≡ range_with_len 0 n = take_all n _ (rw length-range_with_len (omega arith)) in
-    ap (list_all p) (sym whole) ∙ all_front p n n (omega arith)
+all_range p = all_whole p p 0 (λ k. ap p (omega arith))
+
+pub all_range_from : (p : ℕ → Bool) (from n : ℕ) → list_all p (range_with_len from n) ≡ all_to (λ (k : ℕ). p (from + k)) n
+all_range_from p from = all_whole p (λ k. p (from + k)) from (λ k. refl)
 
 -- a loop that reads words: none yet, one more, and all
 pub ruleset table_steps = (tab_none, tab_more, tab_whole)

@@ -6,14 +6,17 @@ ghost use Rattle.std.specs.Prelude.{◌≡◌, true, ◌++◌, ℕ, ◌+◌, ◌
 ghost use Rattle.std.specs.Float.{binary32};
 ghost use Rattle.std.specs.Float.Ieee.{of_bits};
 ghost use Rattle.std.specs.Float.Ieee.Scale.{finite};
-ghost use Rattle.floats.specs.Sums.{all_finite};
-ghost use Rattle.words.specs.Words.{word_at, words_from, floats_in, bytes_of, packed_words, packed_floats};
+ghost use Rattle.floats.specs.Sums.{all_finite, all_to};
+ghost use Rattle.words.specs.Words.{word_at, float_at, words_from, floats_in, bytes_of, packed_words, packed_floats};
 
 use std::num::f32_from_bits_with_nan;
 
 const INFINITY: u32 = 0x7f80_0000;
 
 const SIGN: u32 = 0x8000_0000;
+
+// How many words are tested between two ways out.
+const BLOCK: usize = 8;
 
 #[tactic(auto, unfolding(crate::specs::Words::word_at))]
 pub fn word(bytes: &[u8], at: usize) -> u32
@@ -46,12 +49,27 @@ pub fn float(bytes: &[u8], at: usize) -> f32
     f32_from_bits_with_nan(word(bytes, at))
 }
 
-// Whether the first `count` words are bits of finite numbers.
+// Whether the words of a block, from the word `first` on, are bits of finite numbers. Reads them all before it answers: with
+// no way out of the loop the compiler tests several at a time.
+fn block_finite(bytes: &[u8], first: usize) -> bool
+    requires { (first + BLOCK) * 4 ≤ length bytes.now }
+    ensures { result ≡ all_to (λ (k : ℕ). finite (float_at bytes.now ((first + k) * 4))) BLOCK }
+{
+    (0..BLOCK).fold(
+        true,
+        |sound, i| sound & is_finite(word(bytes, (first + i) * 4)),
+    )
+}
+
+// Whether the first `count` words are bits of finite numbers: the whole blocks, then the words that are left one by one. It ends
+// with the first block or word that fails.
 pub fn all_finite(bytes: &[u8], count: usize) -> bool
     requires { count * 4 ≤ length bytes.now }
     ensures { result ≡ all_finite (floats_in bytes.now count) }
 {
-    (0..count).all(|i| is_finite(word(bytes, i * 4)))
+    let blocks = count / BLOCK;
+    (0..blocks).all(|block| block_finite(bytes, block * BLOCK))
+        && (blocks * BLOCK..count).all(|i| is_finite(word(bytes, i * 4)))
 }
 
 // As many words as `sizes` has room for, from `from` on.

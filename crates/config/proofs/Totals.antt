@@ -1,36 +1,27 @@
 -- What the running sums of a list of widths are bounded by. Assumes nothing.
 use Prim.Native.Nat.{ℕ, zero, suc, ◌+◌, ◌-◌, ◌*◌, ◌≤◌, ◌<◌}
 use native.Mathlib.Nat.{le_refl, le_trans, le_of_eq, le_step, le-max_left, le-max_right, le-add_left, add-le-add}
-use native.Mathlib.Nat.{eq-or-lt_of_le, le_of_suc-le-suc, mul-pos, mul_comm, mul_assoc, mul-le-mul_left, le-mul_of_pos_right}
+use native.Mathlib.Nat.{mul-pos, mul_comm, mul_assoc, mul-le-mul_left, le-mul_of_pos_right}
 use native.Mathlib.Numerals.{add-one, sub-one}
 use native.Mathlib.Decide.{le_ind}
 use native.Mathlib.Omega.{arith}
-use mathlib.Core.Path.{◌≡◌, ap, ◌∙◌}
+use mathlib.Core.Path.{◌≡◌}
 use mathlib.Core.Bool.{Bool, true, not}
-use mathlib.Core.Logic.{⊎_elim}
 use mathlib.Core.List.{List}
 use lib.Dec.{eqb}
 use borrow.Author.Tests.{not-true, eqb-false}
 use Rattle.floats.specs.Sums.{all_to}
+use Rattle.floats.proofs.Loops.{all_each}
 use Rattle.layers.specs.Widths.{width_at, params_to, widest_to, widths_to}
 use Rattle.layers.proofs.Widths.{params_room}
-use Rattle.config.proofs.Tests.{both_true}
 
 -- ---- the test of a width
 abbrev pub some_wide : List ℕ → ℕ → Bool
 some_wide ws i = not (eqb (width_at ws i) 0)
 
--- ---- a test that passes at all of 0, 1, .., n - 1 passes at each
-pub all_at : (f : ℕ → Bool) (n : ℕ) → all_to f n ≡ true → (j : ℕ) → j < n → f j ≡ true
-unfolding all_to
-all_at f zero h j l = absurd (omega arith)
-all_at f (suc n) h j l =
-    let b = both_true _ _ h in
-    ⊎_elim (λ (e : j ≡ n). ap f e ∙ b.1) (λ (m : j < n). all_at f n b.0 j m) (eq-or-lt_of_le (le_of_suc-le-suc l))
-
 pub positive_at : (ws : List ℕ) (n : ℕ) → all_to (some_wide ws) n ≡ true → (j : ℕ) → j < n → 0 < width_at ws j
 positive_at ws n h j l =
-    let w = eqb-false (width_at ws j) 0 (not-true _ (all_at (some_wide ws) n h j l)) in omega (arith, w)
+    let w = eqb-false (width_at ws j) 0 (not-true _ (all_each (some_wide ws) n h j l)) in omega (arith, w)
 
 -- ---- what does not fall from one number to the next does not fall
 rising : (s : ℕ → ℕ) → ((n : ℕ) → s n ≤ s (suc n)) → (m n : ℕ) → m ≤ n → s m ≤ s n

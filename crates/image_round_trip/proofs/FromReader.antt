@@ -12,13 +12,14 @@ use lib.Ieee.Bits.{to_bits-of_bits, is_true}
 use lib.Ieee.Scale.{finite}
 use borrow.Author.Tests.{eq-eqb}
 use Rattle.floats.specs.Sums.{all_finite}
+use Rattle.floats.proofs.Loops.{all_each}
 use Rattle.layers.specs.Widths.{parameters_in}
 use Rattle.config.specs.Config.{config_fault}
 use Rattle.admission.specs.Admission.{up_to8}
 use Rattle.words.specs.Words.{Bytes, word_at, float_at, words_from, floats_in, packed_words, packed_floats}
 use Rattle.words.proofs.Packs.{word_in, bits_in}
 use Rattle.words.proofs.Patterns.{finite_number}
-use Rattle.words.proofs.Tables.{all_at, words_length, word_at_lem, floats_length, float_at_lem}
+use Rattle.words.proofs.Tables.{words_length, word_at_lem, floats_length, float_at_lem}
 use Rattle.words.proofs.Places.{word_small, packed_again}
 use Rattle.image_layout.specs.declared.Trailer.{Trailer}
 use Rattle.image_layout.specs.Trailer.{image_length, trailer_at, trailer_words}
@@ -58,7 +59,7 @@ module _ (bs : List ℕ) (b : Bytes bs) (a : PastEleven bs (trailer_in bs)) wher
       (packed_again bs 0 n (bits_in (floats_in bs n)) b (omega arith)
       (λ i h. let same = float_at_lem bs n i h in
       let f : finite (float_at bs (i * 4)) ≡ true =
-      ap finite (sym same) ∙ all_at _ n i (rw (floats_length bs n) at a.sound) h in
+      ap finite (sym same) ∙ all_each _ n (rw (floats_length bs n) at a.sound) i h in
       let z : 0 + i * 4 ≡ i * 4 = omega arith in
       ap (to_bits binary32) same ∙ bits_back bs (i * 4) b (omega arith) f ∙ ap (word_at bs) (sym z)))
 

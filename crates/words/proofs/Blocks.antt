@@ -1,9 +1,10 @@
 -- A test of many places: over a range with no way out, and block by block. Assumes nothing.
-use Rattle.std.proofs.Common.{◌≡◌, sym, ◌∙◌, Bool, true, ◌&&◌, ℕ, zero, suc, ◌+◌, ◌*◌, List, [], ◌∷◌}
+use Rattle.std.proofs.Common.{◌≡◌, sym, ◌∙◌, Bool, true, ◌&&◌, ℕ, zero, suc, ◌+◌, ◌*◌}
 use Rattle.std.proofs.Math.Bool.{and-true, and_assoc}
 use Rattle.std.proofs.Math.Nat.{suc-mul, zero-mul, add-zero, add-suc}
-use Rattle.std.specs.List.{fold, list_all, range_with_len}
+use Rattle.std.specs.List.{fold, range_with_len}
 use Rattle.floats.specs.Sums.{all_to}
+use Rattle.floats.proofs.Loops.{fold_all}
 use Rattle.words.proofs.Tables.{all_range}
 
 module _ (p : ℕ → Bool) where
@@ -11,13 +12,9 @@ module _ (p : ℕ → Bool) where
   abbrev pub also : Bool → ℕ → Bool
   also so_far k = so_far && p k
 
-  fold_all : (s : Bool) (l : List ℕ) → fold also s l ≡ (s && list_all p l)
-  fold_all s [] = sym (and-true s)
-  fold_all s (x ∷ l) = fold_all (s && p x) l ∙ and_assoc s (p x) (list_all p l)
-
   -- a fold over a range tests every place of it
   pub fold_range : (n : ℕ) → fold also true (range_with_len 0 n) ≡ all_to p n
-  fold_range n = fold_all true (range_with_len 0 n) ∙ all_range p n
+  fold_range n = fold_all p true (range_with_len 0 n) ∙ all_range p n
 
   -- a test of n places, and of m more
   all_split : (n m : ℕ) → all_to p (n + m) ≡ (all_to p n && all_to (λ (k : ℕ). p (n + k)) m)
